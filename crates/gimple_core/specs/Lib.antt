@@ -1,0 +1,10 @@
+pub mod Names
+pub mod Size
+pub mod Operators
+pub mod Layout
+pub mod Memory
+pub mod State
+pub mod Run
+pub mod Trace
+pub mod Accepted
+pub mod Sealed

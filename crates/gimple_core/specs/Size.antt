@@ -1,0 +1,15 @@
+-- How large programs are.
+use Rattle.std.specs.Prelude.{ℕ, ◌+◌, length, sum_by}
+use Rattle.gimple_ir.specs.declared.block.Block.{Block}
+use Rattle.gimple_ir.specs.declared.program.Function.{Function}
+use Rattle.gimple_ir.specs.declared.program.Program.{Program}
+
+-- the statements of a block, and its end
+abbrev pub size_of_block : Block → ℕ
+size_of_block b = length b.body + 1
+
+abbrev pub size_of_function : Function → ℕ
+size_of_function f = sum_by size_of_block f.blocks
+
+abbrev pub size_of_program : Program → ℕ
+size_of_program p = sum_by size_of_function p.functions

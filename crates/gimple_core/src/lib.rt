@@ -1,0 +1,17 @@
+//! What programs are and mean: their types, sizes, layout and operators, and programs without a type fault.
+#![tactic(auto)]
+
+mod checked;
+mod machine;
+mod size;
+
+pub use checked::{Checked, checked_crosses};
+pub use gimple_ir::{
+    Base, Block, Blocks, Case, Cases, Cmp, Constant, Constants, Decl, Decls, Edge, Edges, End,
+    Exact, Function, Functions, Global, Globals, Items, Layout, LayoutSlot, Listed, Marks, Names,
+    Numbers, Object, Op, Operand, Operands, OutOfMemory, Outcome, Params, Passes, Place, Point,
+    Points, Program, Register, Registers, Scalar, Scalars, Shape, Site, Slots, Stmt, Stmts,
+    StructDef, StructDefs, Text, TrapKind, TypeFault, Value,
+};
+pub use machine::{Cell, Extent, FoundSlot, MemorySlot};
+pub use size::{size_of_function, size_of_program};
