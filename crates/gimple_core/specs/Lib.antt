@@ -6,5 +6,6 @@ pub mod Memory
 pub mod State
 pub mod Run
 pub mod Trace
+pub mod Reach
 pub mod Accepted
 pub mod Sealed

@@ -3,6 +3,7 @@
 
 mod checked;
 mod machine;
+mod reach;
 mod size;
 
 pub use checked::{Checked, checked_crosses};
@@ -14,4 +15,5 @@ pub use gimple_ir::{
     StructDef, StructDefs, Text, TrapKind, TypeFault, Value,
 };
 pub use machine::{Cell, Extent, FoundSlot, MemorySlot};
+pub use reach::dropping_keeps_runs;
 pub use size::{size_of_function, size_of_program};
