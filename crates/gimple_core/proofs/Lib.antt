@@ -1,3 +1,4 @@
 pub mod NameLemmas
 pub mod Simulation
 pub mod Dropping
+mod AcceptedRows

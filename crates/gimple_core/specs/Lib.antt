@@ -7,5 +7,9 @@ pub mod State
 pub mod Run
 pub mod Trace
 pub mod Reach
+pub mod Verdict
+pub mod Env
+pub mod Statements
+pub mod Declarations
 pub mod Accepted
 pub mod Sealed
