@@ -3,6 +3,7 @@
 
 mod checked;
 mod machine;
+mod operators;
 mod reach;
 mod size;
 
@@ -15,5 +16,6 @@ pub use gimple_ir::{
     StructDef, StructDefs, Text, TrapKind, TypeFault, Value,
 };
 pub use machine::{Cell, Extent, FoundSlot, MemorySlot};
+pub use operators::{bits, eval_cmp, eval_op, fits, from_low, half, low, modulus, signed, wrap};
 pub use reach::dropping_keeps_runs;
 pub use size::{size_of_function, size_of_program};
