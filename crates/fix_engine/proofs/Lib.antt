@@ -1,0 +1,5 @@
+pub mod Chains
+pub mod Rising
+pub mod Work
+pub mod Worklist
+mod RowsSteps

@@ -1,0 +1,5 @@
+pub mod Lattice
+pub mod Least
+pub mod Rows
+pub mod Truth
+pub mod Ring
