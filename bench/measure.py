@@ -1,0 +1,188 @@
+"""The measurements of bench/run: time, speed, peak memory, and growth where the input doubles."""
+import os
+import sys
+import tempfile
+import time
+
+MEGABYTE = 1 << 20
+
+
+def functions_text(size):
+    """Many small functions in a chain of calls, about `size` bytes; main calls the first one."""
+    parts = ["gimple 1;\n"]
+    held = 0
+    number = 0
+    while held < size:
+        part = (
+            f"i32 f{number} (i32 a, i32 b) {{\n  i32 t;\n  i32 u;\n  <bb 2>:\n    t = a + {number % 16};\n"
+            f"    if (b <= 0) goto <bb 4>; else goto <bb 3>;\n  <bb 3>:\n    b = b - 1;\n    u = f{number // 2} (t, b);\n"
+            f"    t = t - u;\n    goto <bb 4>;\n  <bb 4>:\n    return t;\n}}\n"
+        )
+        parts.append(part)
+        held += len(part)
+        number += 1
+    parts.append(f"i32 main () {{\n  i32 r;\n  <bb 2>:\n    r = f{number - 1} (1, 3);\n    putint (r);\n    return 0;\n}}\n")
+    return "".join(parts)
+
+
+def statements_text(size):
+    """One function of one block, about `size` bytes."""
+    line = "    x = x + y;\n    y = x - 7;\n"
+    return (
+        "gimple 1;\ni32 main () {\n  i32 x;\n  i32 y;\n  <bb 2>:\n" + line * (size // len(line)) + "    putint (x);\n    return 0;\n}\n"
+    )
+
+
+def blocks_text(size):
+    """One function of many blocks, about `size` bytes."""
+    parts = ["gimple 1;\ni32 main () {\n  i32 x;\n  <bb 0>:\n    goto <bb 1>;\n"]
+    held = 0
+    label = 1
+    while held < size:
+        part = f"  <bb {label}>:\n    x = x + 1;\n    if (x < 9) goto <bb {label - 1}>; else goto <bb {label + 1}>;\n"
+        parts.append(part)
+        held += len(part)
+        label += 1
+    parts.append(f"  <bb {label}>:\n    return 0;\n}}\n")
+    return "".join(parts)
+
+
+def generated_text(count):
+    """The shape of generated programs: `count` functions that call one another."""
+    parts = ["gimple 1;\n"]
+    for i in range(count):
+        argument = str(i % 5) if i % 3 == 0 else "t"
+        parts.append(
+            f"i32 f{i} (i32 a, i32 b) {{\n  i32 t;\n  i32 u;\n  <bb 2>:\n    t = a + {7 * i % 16};\n"
+            f"    if (b <= 0) goto <bb 4>; else goto <bb 3>;\n  <bb 3>:\n    b = b - 1;\n    u = f{(5 * i + 1) % count} ({argument}, b);\n"
+            f"    t = t - u;\n    goto <bb 4>;\n  <bb 4>:\n    return t;\n}}\n"
+        )
+    parts.append("i32 main () {\n  i32 r;\n  <bb 2>:\n")
+    for k in range(0, count, 64):
+        parts.append(f"    r = f{k} (1, 3);\n    putint (r);\n")
+    parts.append("    return 0;\n}\n")
+    return "".join(parts)
+
+
+LOOP = """gimple 1;
+i32 main () {
+  i32 x;
+  i32 y;
+  <bb 2>:
+    x = x + 1;
+    y = y - x;
+    y = y + x;
+    goto <bb 2>;
+}
+"""
+
+CALLS = """gimple 1;
+i32 f (i32 n) {
+  i32 x;
+  <bb 2>:
+    x = n + 1;
+    return x;
+}
+i32 main () {
+  i32 x;
+  <bb 2>:
+    x = f (x);
+    x = x - 1;
+    goto <bb 2>;
+}
+"""
+
+
+def memory_text(length):
+    return f"""gimple 1;
+global i32 g[{length}];
+i32 main () {{
+  ptr p;
+  ptr q;
+  i32 x;
+  <bb 2>:
+    p = &g;
+    q = &g@{4 * (length - 1)};
+    goto <bb 3>;
+  <bb 3>:
+    x = MEM <i32> [p];
+    x = x + 1;
+    MEM <i32> [p] = x;
+    p = p + 4;
+    if (p == q) goto <bb 2>; else goto <bb 3>;
+}}
+"""
+
+
+def measured(words):
+    """Runs a command: seconds, peak memory in MB, status."""
+    began = time.monotonic()
+    child = os.fork()
+    if child == 0:
+        null = os.open(os.devnull, os.O_WRONLY)
+        os.dup2(null, 1)
+        os.execv(words[0], words)
+    _, status, usage = os.wait4(child, 0)
+    return time.monotonic() - began, usage.ru_maxrss / 1024, os.waitstatus_to_exitcode(status)
+
+
+def row(name, amount, unit, seconds, peak, before):
+    growth = f"{seconds / before:5.2f}" if before else "    -"
+    print(f"{name:32} {seconds:8.2f} s {amount / seconds:12.1f} {unit:12} {peak:8.0f} MB {growth}", flush=True)
+
+
+def texts(tool, folder, sizes):
+    for name, make in (("functions", functions_text), ("statements", statements_text), ("blocks", blocks_text)):
+        before = 0
+        for megabytes in sizes:
+            path = os.path.join(folder, "a.g")
+            text = make(megabytes * MEGABYTE - 4096)
+            with open(path, "w", encoding="ascii") as file:
+                file.write(text)
+            seconds, peak, status = measured([tool, path, "-o", os.path.join(folder, "b.g")])
+            assert status == 0, (name, megabytes, status)
+            row(f"{name}, {megabytes} MB", len(text) / MEGABYTE, "MB/s", seconds, peak, before)
+            before = seconds
+
+
+def generated(tool, folder, counts):
+    before = 0
+    for count in counts:
+        path = os.path.join(folder, "a.g")
+        with open(path, "w", encoding="ascii") as file:
+            file.write(generated_text(count))
+        seconds, peak, status = measured([tool, path, "-o", os.path.join(folder, "b.g")])
+        assert status == 0, (count, status)
+        row(f"generated, {count} functions", count, "functions/s", seconds, peak, before)
+        before = seconds
+
+
+def runs(tool, folder, turns):
+    for name, text in (("loop", LOOP), ("calls", CALLS), ("memory, 16 slots", memory_text(16)), ("memory, 65536 slots", memory_text(65536))):
+        before = 0
+        for count in turns:
+            path = os.path.join(folder, "a.g")
+            with open(path, "w", encoding="ascii") as file:
+                file.write(text)
+            seconds, peak, status = measured([tool, f"--turns={count}", path])
+            assert status == 0, (name, status)
+            row(f"{name}, {count} transfers", count, "transfers/s", seconds, peak, before)
+            before = seconds
+
+
+def main():
+    top, words = sys.argv[1], sys.argv[2:]
+    quick = "--quick" in words
+    tools = [word for word in words if word != "--quick"]
+    optimiser = tools[0] if tools else os.path.join(top, "bin", "gimple-ipa")
+    runner = tools[1] if len(tools) > 1 else os.path.join(top, "bin", "gimple-run")
+    print(f"{os.cpu_count()} processors")
+    print(f"{'what':32} {'time':>10} {'speed':>25} {'peak':>11} growth")
+    with tempfile.TemporaryDirectory() as folder:
+        texts(optimiser, folder, (1, 2) if quick else (4, 8, 16))
+        generated(optimiser, folder, (256, 512) if quick else (256, 1024, 4096, 16384, 65536))
+        if os.path.exists(runner):
+            runs(runner, folder, (100000, 200000) if quick else (1000000, 2000000))
+
+
+main()
