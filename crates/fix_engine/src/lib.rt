@@ -4,7 +4,9 @@
 mod assignment;
 mod flow;
 mod lattice;
+mod lifted;
 mod order;
+mod pair;
 #[cfg(test)]
 mod ring;
 mod rows;
@@ -15,7 +17,9 @@ mod truth;
 pub use assignment::Assignment;
 pub use flow::Flow;
 pub use lattice::{Lattice, OutOfMemory, height_bounds_chains};
+pub use lifted::Lifted;
 pub use order::{OrderSolver, solve_in_order};
+pub use pair::Pair;
 pub use rows::Rows;
 pub use solver::{RoundSolver, Solver, starts};
 pub use steps::Steps;

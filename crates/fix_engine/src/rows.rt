@@ -7,6 +7,7 @@ use std::alloc::Global;
 use std::marker::Model;
 
 /// A list of values, all of one kind. Lists of one length are compared and joined item by item.
+/// Its kind is the length, and then the kind of the values. The height is the length times theirs.
 #[derive(Drop)]
 pub struct Rows<V: Lattice> {
     items: Vec<V>,
@@ -21,10 +22,33 @@ impl<V: Lattice> Model for Rows<V> {
 }
 
 impl<V: Lattice> Rows<V> {
+    ghost use Rattle.std.specs.Prelude.{◌<◌, slice_set};
+
     pub fn new(items: Vec<V>) -> Rows<V>
         ensures { result ≡ items.items }
     {
         Rows { items }
+    }
+
+    pub fn as_slice(&self) -> &[V]
+        ensures { result.now ≡ self.now }
+    {
+        self.items.as_slice()
+    }
+
+    pub fn into_vec(self) -> Vec<V>
+        ensures { result.items ≡ self }
+    {
+        let Rows { items } = self;
+        items
+    }
+
+    /// Replaces the value at an index.
+    pub fn set(&mut self, index: usize, value: V)
+        requires { index < length self.old }
+        ensures { self.new ≡ slice_set self.old index value }
+    {
+        self.items[index] = value;
     }
 }
 
