@@ -3,3 +3,6 @@ pub mod NumberLemmas
 pub mod Simulation
 pub mod Dropping
 mod AcceptedRows
+pub mod Passed
+pub mod EnvLemmas
+pub mod KeptAccepted

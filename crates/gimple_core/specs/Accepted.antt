@@ -4,7 +4,6 @@
 use Rattle.std.specs.Prelude.{List, [], Option, None}
 use Rattle.gimple_ir.specs.declared.declarations.StructDef.{StructDef}
 use Rattle.gimple_ir.specs.declared.declarations.Global.{Global}
-use Rattle.gimple_ir.specs.declared.program.Function.{Function}
 use Rattle.gimple_ir.specs.declared.program.Program.{Program}
 use Rattle.gimple_ir.specs.declared.fault.TypeFault.{TypeFault}
 use Rattle.gimple_core.specs.Verdict.{Judgement, ◌>>=◌, ◌>>◌, pure, fault_of}
@@ -12,8 +11,8 @@ use Rattle.gimple_core.specs.Env.{Env, Names, globals_by_name}
 use Rattle.gimple_core.specs.Declarations.{structs, globals, heads, main, functions}
 
 -- what names mean outside of functions
-abbrev pub known_env : List StructDef → Names Global → Names Function → Env
-known_env ss gs fs = record { structs = ss; globals = gs; functions = fs; locals = []; registers = []; labels = []; result = None }
+abbrev pub known_env : List StructDef → Names Global → Env
+known_env ss gs = record { structs = ss; globals = gs; locals = []; registers = []; labels = []; result = None }
 
 -- all checks in order
 unfoldable pub checked : Program → Judgement (Unit {0})
@@ -22,7 +21,7 @@ checked p = do
   variables ← globals p.structs (globals_by_name p.globals) 0 [] p.globals
   callees ← heads variables 0 [] p.functions
   main 0 p.functions
-  functions (known_env p.structs variables callees) 0 p.functions
+  functions (known_env p.structs variables) callees 0 p.functions
 
 -- the first check that fails
 unfoldable pub first_fault : Program → Option TypeFault

@@ -147,38 +147,38 @@ main number (f ∷ fs) =
 -- ---- names of a function
 
 -- a name that is no global's and no function's
-unfoldable pub is_free : Env → List ℕ → Verdict (Unit {0})
-is_free env name = do
+unfoldable pub is_free : Env → Names Function → List ℕ → Verdict (Unit {0})
+is_free env functions name = do
   demand (not (has name env.globals)) 2
-  demand (not (has name env.functions)) 2
+  demand (not (has name functions)) 2
 
-unfoldable pub register : Env → Register → Verdict Env
-register env r = do
-  is_free env r.name
+unfoldable pub register : Env → Names Function → Register → Verdict Env
+register env functions r = do
+  is_free env functions r.name
   demand (not (has r.name env.locals)) 2
   more ← declared env.registers r.name r
   pure (record env { registers = more })
 
-unfoldable pub registers : Env → List Register → Verdict Env
-registers env [] = pure env
-registers env (r ∷ rs) = do
-  more ← register env r
-  registers more rs
+unfoldable pub registers : Env → Names Function → List Register → Verdict Env
+registers env functions [] = pure env
+registers env functions (r ∷ rs) = do
+  more ← register env functions r
+  registers more functions rs
 
-unfoldable pub local : Env → Decl → Verdict Env
-local env d = do
-  is_free env d.name
+unfoldable pub local : Env → Names Function → Decl → Verdict Env
+local env functions d = do
+  is_free env functions d.name
   demand (not (has d.name env.registers)) 2
   more ← declared env.locals d.name d
   known_shape (structs_by_name env.structs) d.shape
   sized env.structs d
   pure (record env { locals = more })
 
-unfoldable pub locals : Env → List Decl → Verdict Env
-locals env [] = pure env
-locals env (d ∷ ds) = do
-  more ← local env d
-  locals more ds
+unfoldable pub locals : Env → Names Function → List Decl → Verdict Env
+locals env functions [] = pure env
+locals env functions (d ∷ ds) = do
+  more ← local env functions d
+  locals more functions ds
 
 -- labels of blocks, after earlier ones
 unfoldable pub labels : List ℕ → List Block → Verdict (List ℕ)
@@ -192,22 +192,22 @@ has_blocks [] = false
 has_blocks (b ∷ bs) = true
 
 -- what a function sees: its formals, locals and registers in order, then its labels
-unfoldable pub own : Env → Function → Verdict Env
-own known f = do
-  first ← registers (record known { locals = []; registers = []; labels = []; result = f.result }) f.params
-  second ← locals first f.locals
-  third ← registers second f.registers
+unfoldable pub own : Env → Names Function → Function → Verdict Env
+own known functions f = do
+  first ← registers (record known { locals = []; registers = []; labels = []; result = f.result }) functions f.params
+  second ← locals first functions f.locals
+  third ← registers second functions f.registers
   demand (has_blocks f.blocks) 10
   targets ← labels [] f.blocks
   pure (record third { labels = targets })
 
-unfoldable pub one_function : Env → ℕ → Function → Judgement (Unit {0})
-one_function known number f = do
-  env ← at (site.Statement number 0) (own known f)
-  blocks env number 1 f.blocks
+unfoldable pub one_function : Env → Names Function → ℕ → Function → Judgement (Unit {0})
+one_function known callees number f = do
+  env ← at (site.Statement number 0) (own known callees f)
+  blocks env callees number 1 f.blocks
 
-unfoldable pub functions : Env → ℕ → List Function → Judgement (Unit {0})
-functions known number [] = pure tt
-functions known number (f ∷ fs) = do
-  one_function known number f
-  functions known (number + 1) fs
+unfoldable pub functions : Env → Names Function → ℕ → List Function → Judgement (Unit {0})
+functions known callees number [] = pure tt
+functions known callees number (f ∷ fs) = do
+  one_function known callees number f
+  functions known callees (number + 1) fs

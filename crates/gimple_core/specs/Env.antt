@@ -44,11 +44,10 @@ decls_by_name ds = map (λ d. (d.name, d)) ds
 abbrev pub registers_by_name : List Register → Names Register
 registers_by_name rs = map (λ r. (r.name, r)) rs
 
--- what a function sees: the program's structs, globals and functions, and its own locals, registers, labels and result
+-- what a function sees besides other functions: structs and globals, and its own locals, registers, labels and result
 pub record Env : Type 0 where
   pub structs : List StructDef
   pub globals : Names Global
-  pub functions : Names Function
   pub locals : Names Decl
   pub registers : Names Register
   pub labels : List ℕ

@@ -20,13 +20,14 @@ use Rattle.gimple_ir.specs.declared.block.End.TheVariants.{Goto, If, Switch, Ret
 use Rattle.gimple_ir.specs.declared.block.Block.{Block}
 use Rattle.gimple_ir.specs.declared.declarations.Register.{Register}
 use Rattle.gimple_ir.specs.declared.value.LayoutSlot.{LayoutSlot}
+use Rattle.gimple_ir.specs.declared.program.Function.{Function}
 use Rattle.gimple_ir.specs.declared.fault.Site.{Site}
 use Rattle.gimple_ir.specs.declared.fault.Site.TheVariants as site
 use Rattle.gimple_core.specs.Memory.{same_scalar}
 use Rattle.gimple_core.specs.Operators.{in_scalar}
 use Rattle.gimple_core.specs.Layout.{layout_of}
 use Rattle.gimple_core.specs.Verdict.{Verdict, Judgement, ◌>>=◌, ◌>>◌, pure, demand, found, at}
-use Rattle.gimple_core.specs.Env.{Env, named, scalar_of, is_variable, variable, is_constant}
+use Rattle.gimple_core.specs.Env.{Env, Names, named, scalar_of, is_variable, variable, is_constant}
 
 abbrev pub is_pointer : Scalar → Bool
 is_pointer Ptr = true
@@ -171,10 +172,10 @@ result_fits None result = pure tt
 result_fits (Some scalar) None = Err 7
 result_fits (Some scalar) (Some result) = demand (same_scalar scalar result) 4
 
-unfoldable pub called : Env → Option (List ℕ) → List ℕ → List Operand → Verdict (Unit {0})
-called env to callee xs = do
+unfoldable pub called : Env → Names Function → Option (List ℕ) → List ℕ → List Operand → Verdict (Unit {0})
+called env functions to callee xs = do
   scalar ← target env to
-  function ← found (named callee env.functions) 1
+  function ← found (named callee functions) 1
   demand (length xs == length function.params) 5
   arguments env function.params xs
   result_fits scalar function.result
@@ -192,34 +193,34 @@ printed env (Reg name) = do
 printed env (Number z) = demand (is_printable z) 13
 printed env x = Err 4
 
-unfoldable pub statement : Env → Stmt → Verdict (Unit {0})
-statement env (Copy to from) = do
+unfoldable pub statement : Env → Names Function → Stmt → Verdict (Unit {0})
+statement env functions (Copy to from) = do
   scalar ← scalar_of env to
   operand env 4 scalar from
-statement env (Arith to left op right) = do
+statement env functions (Arith to left op right) = do
   scalar ← scalar_of env to
   arith env scalar left op right
-statement env (Compare to left cmp right) = do
+statement env functions (Compare to left cmp right) = do
   scalar ← scalar_of env to
   demand (not (is_pointer scalar)) 4
   compared env left cmp right
-statement env (Convert to scalar from) = do
+statement env functions (Convert to scalar from) = do
   own ← scalar_of env to
   converted env own scalar from
-statement env (Load to scalar from) = do
+statement env functions (Load to scalar from) = do
   own ← scalar_of env to
   demand (same_scalar scalar own) 4
   place env scalar from
-statement env (Store scalar to from) = do
+statement env functions (Store scalar to from) = do
   place env scalar to
   demand (not (is_read_only env to.base)) 14
   operand env 4 scalar from
-statement env (Call to callee xs) = called env to callee xs
-statement env (Get to) = do
+statement env functions (Call to callee xs) = called env functions to callee xs
+statement env functions (Get to) = do
   own ← scalar_of env to
   demand (same_scalar own I64) 4
-statement env (Put from) = printed env from
-statement env Abort = pure tt
+statement env functions (Put from) = printed env from
+statement env functions Abort = pure tt
 
 -- ---- ends
 
@@ -261,16 +262,16 @@ ending env (Return x) = returned env x env.result
 -- ---- bodies
 
 -- statements, numbered from a number on
-unfoldable pub body : Env → ℕ → ℕ → List Stmt → Judgement (Unit {0})
-body env function number [] = pure tt
-body env function number (x ∷ xs) = do
-  at (site.Statement function number) (statement env x)
-  body env function (number + 1) xs
+unfoldable pub body : Env → Names Function → ℕ → ℕ → List Stmt → Judgement (Unit {0})
+body env functions index number [] = pure tt
+body env functions index number (x ∷ xs) = do
+  at (site.Statement index number) (statement env functions x)
+  body env functions index (number + 1) xs
 
 -- blocks, whose statements and ends are numbered from a number on
-unfoldable pub blocks : Env → ℕ → ℕ → List Block → Judgement (Unit {0})
-blocks env function number [] = pure tt
-blocks env function number (b ∷ bs) = do
-  body env function number b.body
-  at (site.Statement function (number + length b.body)) (ending env b.end)
-  blocks env function (number + length b.body + 1) bs
+unfoldable pub blocks : Env → Names Function → ℕ → ℕ → List Block → Judgement (Unit {0})
+blocks env functions index number [] = pure tt
+blocks env functions index number (b ∷ bs) = do
+  body env functions index number b.body
+  at (site.Statement index (number + length b.body)) (ending env b.end)
+  blocks env functions index (number + length b.body + 1) bs
