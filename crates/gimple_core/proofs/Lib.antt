@@ -1,5 +1,6 @@
 pub mod NameLemmas
 pub mod NumberLemmas
+pub mod LayoutLemmas
 pub mod Simulation
 pub mod Dropping
 mod AcceptedRows

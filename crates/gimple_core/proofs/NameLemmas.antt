@@ -1,5 +1,5 @@
 -- Names that pass the test are the same, and the other way round.
-use Rattle.std.proofs.Common.{◌≡◌, ℕ, Bool, true, false, ◌&&◌, List, [], ◌∷◌, refl, sym, ◌==◌}
+use Rattle.std.proofs.Common.{◌≡◌, ℕ, Bool, true, false, ◌&&◌, List, [], ◌∷◌, refl, sym, ◌∙◌, ap, ◌==◌}
 use Rattle.std.proofs.lemmas.Bool.{eqb-true, eq-eqb}
 use Rattle.gimple_core.specs.Names.{same_name}
 
@@ -18,3 +18,14 @@ same_name_true (x ∷ xs) (y ∷ ys) h = same_of x y xs ys (x == y) refl h (same
 pub same_name_self : (xs : List ℕ) → same_name xs xs ≡ true
 same_name_self [] = refl
 same_name_self (x ∷ xs) = rw (eq-eqb x x refl) (same_name_self xs)
+
+same_by : (b c : Bool) → (b ≡ true → c ≡ true) → (c ≡ true → b ≡ true) → b ≡ c
+same_by true true f g = refl
+same_by true false f g = sym (f refl)
+same_by false true f g = g refl
+same_by false false f g = refl
+
+-- a test that says whether two names are the same is the test of names
+pub is_same_name : (b : Bool) (xs ys : List ℕ) → (b ≡ true → xs ≡ ys) → (xs ≡ ys → b ≡ true) → b ≡ same_name xs ys
+is_same_name b xs ys f g =
+    same_by b (same_name xs ys) (λ h. ap (same_name xs) (sym (f h)) ∙ same_name_self xs) (λ h. g (same_name_true xs ys h))

@@ -1,18 +1,15 @@
 -- Where the slots of a variable lie.
-use Rattle.std.specs.Prelude.{find, ℕ, zero, suc, ◌+◌, ◌-◌, ◌*◌, ◌/◌, max, List, [], ◌∷◌, ◌++◌, map, Option, Some, None}
+use Rattle.std.specs.Prelude.{◌≡◌, ◌≤◌, ◌<◌, ◌^◌, false, take, slice_get, find, ℕ, zero, suc, ◌+◌, ◌-◌, ◌*◌, ◌/◌, max, List, [], ◌∷◌, ◌++◌, map, Option, Some, None}
+use Rattle.std.specs.List.{All, list_any}
 use Rattle.gimple_ir.specs.declared.declarations.Shape.{Shape}
 use Rattle.gimple_ir.specs.declared.declarations.Shape.TheVariants.{Plain, Named}
 use Rattle.gimple_ir.specs.declared.declarations.Decl.{Decl}
 use Rattle.gimple_ir.specs.declared.declarations.StructDef.{StructDef}
 use Rattle.gimple_ir.specs.declared.value.LayoutSlot.{LayoutSlot}
 use Rattle.gimple_ir.specs.declared.value.Layout.{Layout}
+use Rattle.gimple_core.specs.declared.layout.KnownLayout.{KnownLayout}
 use Rattle.gimple_core.specs.Names.{same_name}
 use Rattle.gimple_core.specs.Operators.{bits_of}
-
--- a struct's name with its layout
-pub record KnownLayout : Type 0 where
-  pub name : List ℕ
-  pub layout : Layout
 
 abbrev pub empty_layout : Layout
 empty_layout = record { size = 0; align = 1; slots = [] }
@@ -34,7 +31,7 @@ shape_layout known (Named name) = known_layout (find (λ k. same_name k.name nam
 -- the slots of some elements in a row
 abbrev pub repeated : ℕ → ℕ → List LayoutSlot → List LayoutSlot
 repeated zero size slots = []
-repeated (suc n) size slots = slots ++ moved size (repeated n size slots)
+repeated (suc n) size slots = repeated n size slots ++ moved (n * size) slots
 
 abbrev pub count_of : Option ℕ → ℕ
 count_of None = 1
@@ -61,3 +58,21 @@ struct_layouts known (s ∷ ss) = struct_layouts (known ++ record { name = s.nam
 
 unfoldable pub layout_of : List StructDef → Decl → Layout
 layout_of structs decl = decl_layout (struct_layouts [] structs) decl
+
+-- ---- the sizes that `layout_of` asks for
+
+-- an alignment from 1 to 8, and slots that begin within the size
+pub record IsLayout (l : Layout) : Type 0 where
+  pub least : 1 ≤ l.align
+  pub most : l.align ≤ 8
+  pub slots : All (λ s. s.offset < l.size) l.slots
+
+-- the struct behind these ones is not behind the first one of the shape's name
+abbrev pub IsNeeded : List StructDef → Shape → Type 0
+IsNeeded earlier (Plain scalar) = ⊥
+IsNeeded earlier (Named name) = list_any (λ s. same_name s.name name) earlier ≡ false
+
+-- the size is at most 2 ^ 24, and so is that of the shape's struct and of each struct before it
+pub record HasLayout (structs : List StructDef) (d : Decl) : Type 0 where
+  pub size : (layout_of structs d).size ≤ 2 ^ 24
+  pub before : (k : ℕ) (s : StructDef) → slice_get structs k ≡ Some s → IsNeeded (take k structs) d.shape → (with_fields (struct_layouts [] (take k structs)) empty_layout s.fields).size ≤ 2 ^ 24

@@ -2,7 +2,9 @@
 #![tactic(auto)]
 
 mod checked;
+mod layout;
 mod machine;
+mod names;
 mod operators;
 mod reach;
 mod size;
@@ -15,7 +17,9 @@ pub use gimple_ir::{
     Points, Program, Register, Registers, Scalar, Scalars, Shape, Site, Slots, Stmt, Stmts,
     StructDef, StructDefs, Text, TrapKind, TypeFault, Value,
 };
+pub use layout::{KnownLayout, layout_of};
 pub use machine::{Cell, Extent, FoundSlot, MemorySlot};
+pub use names::same_name;
 pub use operators::{bits, eval_cmp, eval_op, fits, from_low, half, low, modulus, signed, wrap};
 pub use reach::dropping_keeps_runs;
 pub use size::{size_of_function, size_of_program};
