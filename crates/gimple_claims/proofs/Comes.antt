@@ -1,0 +1,182 @@
+-- The states of a run with what happened before each, and the one induction over runs.
+use Rattle.std.proofs.Common.{◌≡◌, ℕ, zero, suc, ℤ, Bool, true, false, if◌then◌else◌, List, [], ◌∷◌, ◌++◌, refl, sym, ◌∙◌, ap, subst, append_assoc, append-nil, Option, Some, None}
+use Rattle.gimple_ir.specs.declared.program.Program.{Program}
+use Rattle.gimple_ir.specs.declared.statement.Stmt.{Stmt}
+use Rattle.gimple_core.specs.State.{State}
+use Rattle.gimple_core.specs.Run.{Reached, Moves, Stops, Traps, Did, Goes, Reaches, Transfer, perform, finish, resumed, stepped, step, then_walk, walk, start}
+use Rattle.gimple_core.proofs.Simulation.{KeepsRest, perform_rest}
+pub use Rattle.gimple_claims.specs.Runs.{Comes, begins, goes, moves}
+use Rattle.gimple_core.specs.Trace.{Event, told_by, told, access, crossing, events_after, walk_events, events_on, events, main_entry, events_from, Trace, EachAfter, after, InEveryRun}
+
+abbrev pub InReached : (State → Type 0) → Reached → Type 0
+InReached I (Moves k t) = I t
+InReached I (Stops o z) = Unit {0}
+InReached I (Traps o k) = Unit {0}
+
+abbrev pub InDid : (State → Type 0) → Did → Type 0
+InDid I (Goes t) = I t
+InDid I (Reaches r) = InReached I r
+
+pub record IsKept (p : Program) (input : List ℤ) (I : List Event → State → Type 0) : Type 0 where
+  pub begin : (s : State) → start p input ≡ Some s → I (main_entry p s ∷ []) s
+  pub keep : (past : List Event) (s : State) → I past s → InDid (I (after past (told p s))) (step p s)
+
+-- the induction
+pub holds : (p : Program) (input : List ℤ) (I : List Event → State → Type 0) → IsKept p input I → (past : List Event) (s : State) → Comes p input past s → I past s
+holds p input I kept _ _ (begins s e) = kept.begin s e
+holds p input I kept _ _ (goes past s t c e) = subst (InDid (I (after past (told p s)))) e (kept.keep past s (holds p input I kept past s c))
+holds p input I kept _ _ (moves past k s t c e) = subst (InDid (I (after past (told p s)))) e (kept.keep past s (holds p input I kept past s c))
+
+-- ---- lists of events
+
+pub each_append : (Q : List Event → Event → Type 0) (past es fs : List Event) → EachAfter Q past es → EachAfter Q (after past es) fs → EachAfter Q past (es ++ fs)
+each_append Q past [] fs a b = b
+each_append Q past (e ∷ es) fs a b = (a.0, each_append Q (e ∷ past) es fs a.1 b)
+
+pub each_first : (Q : List Event → Event → Type 0) (past es fs : List Event) → EachAfter Q past (es ++ fs) → EachAfter Q past es
+each_first Q past [] fs a = tt
+each_first Q past (e ∷ es) fs a = (a.0, each_first Q (e ∷ past) es fs a.1)
+
+pub each_last : (Q : List Event → Event → Type 0) (past es fs : List Event) → EachAfter Q past (es ++ fs) → EachAfter Q (after past es) fs
+each_last Q past [] fs a = a
+each_last Q past (e ∷ es) fs a = each_last Q (e ∷ past) es fs a.1
+
+-- ---- from the states to the list
+
+-- what is said of each state that comes up
+abbrev pub AtEach : Program → List ℤ → (List Event → Event → Type 0) → Type 0
+AtEach p input Q = (past : List Event) (s : State) → Comes p input past s → EachAfter Q past (told p s)
+
+unmade : (Q : List Event → Event → Type 0) (p : Program) (past : List Event) (made : Bool) (xs : List Stmt) (s : State) → EachAfter Q past (told_by p true xs s) → EachAfter Q past (told_by p made xs s)
+unfolding told_by
+unmade Q p past true xs s a = a
+unmade Q p past false xs s a = (a.0, each_append Q _ (access p.globals xs s) [] (each_first Q _ (access p.globals xs s) _ a.1) tt)
+
+pub after_append : (past es fs : List Event) → after past (es ++ fs) ≡ after (after past es) fs
+after_append past [] fs = refl
+after_append past (e ∷ es) fs = after_append (e ∷ past) es fs
+
+record Walked (p : Program) (input : List ℤ) (Q : List Event → Event → Type 0) (past : List Event) (made : Bool) (es : List Event) (r : Reached) : Type 0 where
+  each : EachAfter Q past es
+  next : made ≡ true → InReached (Comes p input (after past es)) r
+
+arrives : (p : Program) (input : List ℤ) (past : List Event) (s : State) → Comes p input past s → (r : Reached) → step p s ≡ Reaches r → InReached (Comes p input (after past (told p s))) r
+arrives p input past s c (Moves k t) e = moves past k s t c e
+arrives p input past s c (Stops o z) e = tt
+arrives p input past s c (Traps o k) e = tt
+
+-- where a statement goes on, the flag makes no difference
+same_told_of : (made : Bool) (a : Event) (es fs : List Event) → fs ≡ [] → a ∷ (es ++ (if made then fs else [])) ≡ a ∷ (es ++ (if true then fs else []))
+same_told_of true a es fs e = refl
+same_told_of false a es fs e = rw e refl
+
+same_told : (p : Program) (made : Bool) (xs : List Stmt) (s t : State) → stepped p s xs ≡ Goes t → told_by p made xs s ≡ told_by p true xs s
+unfolding told_by
+same_told p made xs s t e = same_told_of made _ _ _ (ap (crossing p.globals xs s) e)
+
+walked_did : (p : Program) (input : List ℤ) (Q : List Event → Event → Type 0) (past : List Event) (made : Bool) (s : State) (x : Stmt) (xs : List Stmt) → Comes p input past s → s.top.rest ≡ x ∷ xs → AtEach p input Q → ((past : List Event) (t : State) → Comes p input past t → t.top.rest ≡ xs → Walked p input Q past made (walk_events p made xs t) (walk p xs t)) → (d : Did) → stepped p s (x ∷ xs) ≡ d → KeepsRest xs d → Walked p input Q past made (told_by p made (x ∷ xs) s ++ events_after d (walk_events p made xs)) (then_walk d (walk p xs))
+walked_did p input Q past made s x xs c e all more (Goes t) f k =
+    let same : told_by p made (x ∷ xs) s ≡ told_by p true (x ∷ xs) s = same_told p made (x ∷ xs) s t f in
+    let here : EachAfter Q past (told_by p true (x ∷ xs) s) = subst (λ ys. EachAfter Q past (told_by p true ys s)) e (all past s c) in
+    let there : Comes p input (after past (told_by p true (x ∷ xs) s)) t = subst (λ ys. Comes p input (after past (told_by p true ys s)) t) e (goes past s t c (ap (stepped p s) e ∙ f)) in
+    let rest : Walked p input Q (after past (told_by p true (x ∷ xs) s)) made (walk_events p made xs t) (walk p xs t) = more _ t there k in
+    rw same
+    (record {
+      each = each_append Q past (told_by p true (x ∷ xs) s) (walk_events p made xs t) here rest.each;
+      next = λ m. subst (λ h. InReached (Comes p input h) (walk p xs t)) (sym (after_append past (told_by p true (x ∷ xs) s) (walk_events p made xs t))) (rest.next m);
+    })
+walked_did p input Q past made s x xs c e all more (Reaches r) f k =
+    let here : EachAfter Q past (told_by p true (x ∷ xs) s) = subst (λ ys. EachAfter Q past (told_by p true ys s)) e (all past s c) in
+    record {
+      each = each_append Q past (told_by p made (x ∷ xs) s) [] (unmade Q p past made (x ∷ xs) s here) tt;
+      next = λ m.
+          subst (λ h. InReached (Comes p input h) r) (sym (after_append past (told_by p made (x ∷ xs) s) []))
+          (subst (λ b. InReached (Comes p input (after past (told_by p b (x ∷ xs) s))) r) (sym m)
+          (subst (λ ys. InReached (Comes p input (after past (told_by p true ys s))) r) e (arrives p input past s c r (ap (stepped p s) e ∙ f))));
+    }
+
+walked : (p : Program) (input : List ℤ) (Q : List Event → Event → Type 0) → AtEach p input Q → (made : Bool) (xs : List Stmt) (past : List Event) (s : State) → Comes p input past s → s.top.rest ≡ xs → Walked p input Q past made (walk_events p made xs s) (walk p xs s)
+unfolding walk walk_events
+walked p input Q all made [] past s c e =
+    let here : EachAfter Q past (told_by p true [] s) = subst (λ ys. EachAfter Q past (told_by p true ys s)) e (all past s c) in
+    record {
+      each = unmade Q p past made [] s here;
+      next = λ m.
+          subst (λ b. InReached (Comes p input (after past (told_by p b [] s))) (finish p.globals s.top.end s)) (sym m)
+          (subst (λ ys. InReached (Comes p input (after past (told_by p true ys s))) (finish p.globals s.top.end s)) e (arrives p input past s c _ (ap (stepped p s) e)));
+    }
+walked p input Q all made (x ∷ xs) past s c e =
+    walked_did p input Q past made s x xs c e all (walked p input Q all made xs) (perform p x (resumed s xs)) refl (perform_rest p x (resumed s xs))
+
+each_on : (p : Program) (input : List ℤ) (Q : List Event → Event → Type 0) (past : List Event) (r : Reached) (on : State → List Event) → InReached (Comes p input past) r → ((t : State) → Comes p input past t → EachAfter Q past (on t)) → EachAfter Q past (events_on r on)
+each_on p input Q past (Moves k t) on c more = more t c
+each_on p input Q past (Stops o z) on c more = tt
+each_on p input Q past (Traps o k) on c more = tt
+
+each_event : (p : Program) (input : List ℤ) (Q : List Event → Event → Type 0) → AtEach p input Q → (n : ℕ) (past : List Event) (s : State) → Comes p input past s → EachAfter Q past (events p n s)
+unfolding events
+each_event p input Q all zero past s c = (walked p input Q all false s.top.rest past s c refl).each
+each_event p input Q all (suc n) past s c =
+    let w : Walked p input Q past true (walk_events p true s.top.rest s) (walk p s.top.rest s) = walked p input Q all true s.top.rest past s c refl in
+    each_append Q past (walk_events p true s.top.rest s) _ w.each
+    (each_on p input Q _ (walk p s.top.rest s) (events p n) (w.next refl) (λ t d. each_event p input Q all n _ t d))
+
+-- a claim of main's entry and of what each state tells holds in the run
+in_run_of : (p : Program) (input : List ℤ) (Q : List Event → Event → Type 0) → AtEach p input Q → (n : ℕ) (o : Option State) → start p input ≡ o → ((s : State) → o ≡ Some s → Q [] (main_entry p s)) → EachAfter Q [] (events_from p n o)
+in_run_of p input Q all n None e first = tt
+in_run_of p input Q all n (Some s) e first = (first s refl, each_event p input Q all n _ s (begins s e))
+
+pub in_every_run : (p : Program) (Q : List Event → Event → Type 0) → ((input : List ℤ) (s : State) → start p input ≡ Some s → Q [] (main_entry p s)) → ((input : List ℤ) → AtEach p input Q) → InEveryRun p Q
+unfolding Trace
+in_every_run p Q first all = record { each = λ input n. in_run_of p input Q (all input) n (start p input) refl (first input) }
+
+-- ---- from the list to the states
+
+after_reaches : (p : Program) (made : Bool) (xs : List Stmt) (d : Did) → KeepsRest xs d → events_after d (walk_events p made xs) ≡ events_after d (λ t. walk_events p made t.top.rest t)
+after_reaches p made xs (Goes t) k = ap (λ ys. walk_events p made ys t) (sym k)
+after_reaches p made xs (Reaches r) k = refl
+
+then_reaches : (p : Program) (xs : List Stmt) (d : Did) → KeepsRest xs d → then_walk d (walk p xs) ≡ then_walk d (λ t. walk p t.top.rest t)
+then_reaches p xs (Goes t) k = ap (λ ys. walk p ys t) (sym k)
+then_reaches p xs (Reaches r) k = refl
+
+-- the walk is the step and the walk from there
+pub walk_step : (p : Program) (xs : List Stmt) (s : State) → walk p xs s ≡ then_walk (stepped p s xs) (λ t. walk p t.top.rest t)
+unfolding walk
+walk_step p [] s = refl
+walk_step p (x ∷ xs) s = then_reaches p xs (perform p x (resumed s xs)) (perform_rest p x (resumed s xs))
+
+walk_tells : (p : Program) (made : Bool) (xs : List Stmt) (s : State) → walk_events p made xs s ≡ told_by p made xs s ++ events_after (stepped p s xs) (λ t. walk_events p made t.top.rest t)
+unfolding walk_events
+walk_tells p made [] s = sym (append-nil _)
+walk_tells p made (x ∷ xs) s = ap (λ es. told_by p made (x ∷ xs) s ++ es) (after_reaches p made xs (perform p x (resumed s xs)) (perform_rest p x (resumed s xs)))
+
+events_go : (p : Program) (s t : State) → step p s ≡ Goes t → (n : ℕ) → events p n s ≡ told p s ++ events p n t
+unfolding events
+events_go p s t e zero =
+    walk_tells p false s.top.rest s ∙ rw (same_told p false s.top.rest s t e, e) refl
+events_go p s t e (suc n) =
+    rw (walk_tells p true s.top.rest s, walk_step p s.top.rest s, e) (append_assoc (told p s) (walk_events p true t.top.rest t) (events_on (walk p t.top.rest t) (events p n)))
+
+events_move : (p : Program) (k : Transfer) (s t : State) → step p s ≡ Reaches (Moves k t) → (n : ℕ) → events p (suc n) s ≡ told p s ++ events p n t
+unfolding events
+events_move p k s t e n = rw (walk_tells p true s.top.rest s, walk_step p s.top.rest s, e, append-nil (told p s)) refl
+
+begins_each : (p : Program) (Q : List Event → Event → Type 0) (n : ℕ) (s : State) (o : Option State) → o ≡ Some s → EachAfter Q [] (events_from p n o) → EachAfter Q (main_entry p s ∷ []) (events p n s)
+begins_each p Q n s o e a = let b : EachAfter Q [] (events_from p n (Some s)) = subst (λ o. EachAfter Q [] (events_from p n o)) e a in b.1
+
+each_from : (p : Program) (Q : List Event → Event → Type 0) → InEveryRun p Q → (input : List ℤ) (past : List Event) (s : State) → Comes p input past s → (n : ℕ) → EachAfter Q past (events p n s)
+unfolding Trace
+each_from p Q all input _ _ (begins s e) n = begins_each p Q n s (start p input) e (all.each input n)
+each_from p Q all input _ _ (goes past s t c e) n =
+    each_last Q past (told p s) (events p n t) (subst (EachAfter Q past) (events_go p s t e n) (each_from p Q all input past s c n))
+each_from p Q all input _ _ (moves past k s t c e) n =
+    each_last Q past (told p s) (events p n t) (subst (EachAfter Q past) (events_move p k s t e n) (each_from p Q all input past s c (suc n)))
+
+-- a claim on every run holds of what each state tells
+pub at_each : (p : Program) (Q : List Event → Event → Type 0) → InEveryRun p Q → (input : List ℤ) → AtEach p input Q
+unfolding events
+at_each p Q all input past s c =
+    each_first Q past (told p s) _
+    (each_first Q past (told p s ++ events_after (step p s) (λ t. walk_events p true t.top.rest t)) _
+    (subst (λ es. EachAfter Q past (es ++ events_on (walk p s.top.rest s) (events p zero))) (walk_tells p true s.top.rest s) (each_from p Q all input past s c (suc zero))))

@@ -1,0 +1,11 @@
+pub mod Comes
+pub mod Accesses
+pub mod Steps
+pub mod Stack
+pub mod Activation
+pub mod Points
+pub mod Files
+pub mod Kept
+pub mod Along
+pub mod Instances
+pub mod Entries
