@@ -1,0 +1,72 @@
+//! Tokens.
+
+use gimple_ir::Text;
+
+/// The tokens of one spelling: keywords, then marks.
+#[derive(Clone, Copy, Debug, PartialEq, Eq)]
+pub enum Symbol {
+    Gimple,
+    Struct,
+    Global,
+    Const,
+    Local,
+    Bb,
+    Mem,
+    Null,
+    Getint,
+    Putint,
+    Abort,
+    Goto,
+    If,
+    Else,
+    Switch,
+    Case,
+    Default,
+    Return,
+    Void,
+    I8,
+    I16,
+    I32,
+    I64,
+    U8,
+    U16,
+    U32,
+    U64,
+    Ptr,
+    LessEq,
+    GreaterEq,
+    EqEq,
+    NotEq,
+    ShiftLeft,
+    ShiftRight,
+    Semi,
+    OpenBrace,
+    CloseBrace,
+    Open,
+    Close,
+    OpenBracket,
+    CloseBracket,
+    Comma,
+    Colon,
+    Assign,
+    At,
+    Ampersand,
+    Less,
+    Greater,
+    Plus,
+    Minus,
+    Star,
+    Slash,
+    Percent,
+    Bar,
+    Caret,
+}
+
+/// A token. `Huge` is a number above 2^64 - 1, which no program has.
+#[derive(Debug, Drop)]
+pub enum Token {
+    Name(Text),
+    Number(u64),
+    Huge,
+    Fixed(Symbol),
+}
