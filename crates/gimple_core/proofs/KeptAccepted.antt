@@ -186,7 +186,7 @@ heads_kept gs keep number place some more out (f ∷ fs) fewer h =
     let grown = subst (λ t. d.heads gs (number + 1) t fs ≡ Ok out) q.2 p.2 in
     by (keep f)
     (both_pass (at _ (d.head gs some f)) _ (some ++ e ∷ []) _ (at_passes _ (d.head gs some f) (some ++ e ∷ []) (head_passes gs some f q.0 (lacks_too some more fewer f.name q.1)))
-      (heads_kept gs keep (number + 1) (place + 1) (some ++ e ∷ []) (more ++ e ∷ []) out fs (fewer_both some more e fewer) grown ∙ ap Ok (append_assoc some (e ∷ []) (functions_by_name (filter keep fs)))))
+    (heads_kept gs keep (number + 1) (place + 1) (some ++ e ∷ []) (more ++ e ∷ []) out fs (fewer_both some more e fewer) grown ∙ ap Ok (append_assoc some (e ∷ []) (functions_by_name (filter keep fs)))))
     (heads_kept gs keep (number + 1) place some (more ++ e ∷ []) out fs (fewer_more some more e fewer) grown)
   where
     by : (c : Bool) → d.heads gs place some (f ∷ filter keep fs) ≡ Ok (some ++ functions_by_name (f ∷ filter keep fs)) → d.heads gs place some (filter keep fs) ≡ Ok (some ++ functions_by_name (filter keep fs)) → d.heads gs place some (cond c (f ∷ filter keep fs) (filter keep fs)) ≡ Ok (some ++ functions_by_name (cond c (f ∷ filter keep fs) (filter keep fs)))
@@ -278,8 +278,8 @@ kept_accepted p keeps closed h =
     (both_pass (d.heads b.0 0 [] (filter keep p.functions)) _ (functions_by_name (filter keep p.functions)) tt (heads_kept b.0 keep 0 0 [] [] c.0 p.functions (nothing_fewer []) c.1)
     (both_pass (d.main 0 (filter keep p.functions)) _ tt tt (main_kept keeps 0 0 p.functions closed.main m.1)
     (functions_kept (known_env p.structs b.0) keep (functions_by_name (filter keep p.functions)) (functions_by_name p.functions) 0 0 p.functions (kept_fewer keep p.functions)
-      (kept_calls p keeps closed p.functions (subst (λ t. Each (λ f. named f.name t ≡ Some f) p.functions) same (heads_find b.0 0 [] c.0 p.functions c.1)))
-      (subst (λ t. d.functions (known_env p.structs b.0) t 0 p.functions ≡ Ok tt) same m.2))))))
+    (kept_calls p keeps closed p.functions (subst (λ t. Each (λ f. named f.name t ≡ Some f) p.functions) same (heads_find b.0 0 [] c.0 p.functions c.1)))
+    (subst (λ t. d.functions (known_env p.structs b.0) t 0 p.functions ≡ Ok tt) same m.2))))))
 
 -- the reached functions of a program without a type fault have none
 pub reached_accepted : (p q : Program) → first_fault p ≡ None → IsWithoutUnreached p q → first_fault q ≡ None

@@ -3,6 +3,7 @@ pub mod NumberLemmas
 pub mod LayoutLemmas
 pub mod Simulation
 pub mod Dropping
+pub mod Rows
 mod AcceptedRows
 pub mod Passed
 pub mod EnvLemmas

@@ -8,6 +8,8 @@ mod names;
 mod operators;
 mod reach;
 mod size;
+#[cfg(test)]
+mod tests;
 
 pub use checked::{Checked, checked_crosses};
 pub use gimple_ir::{
