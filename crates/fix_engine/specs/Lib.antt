@@ -1,8 +1,12 @@
 pub mod Bools
 pub mod Lattice
 pub mod Least
+pub mod Solving
+pub mod Marks
+pub mod Outgoing
 pub mod Rows
 pub mod Lifted
 pub mod Pair
 pub mod Truth
 pub mod Ring
+pub mod Waiting
