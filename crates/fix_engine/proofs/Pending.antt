@@ -36,7 +36,7 @@ module _ {V : Type 0} {fits : List ℕ → V → Type 0} {height : List ℕ → 
   posted_same still =
       let old = value_at s xs (s.target e) in
       let low : below (s.flow e from) old ≡ true = not_rises (below (s.flow e from) old) still in
-      ap (set xs (s.target e)) (joined_below lat k s flow old (s.flow e from) old_fits found_fits low) ∙ set-get_or xs (s.target e) (s.start (s.target e))
+      ap (set xs (s.target e)) (joined_below lat k old (s.flow e from) old_fits found_fits low) ∙ set-get_or xs (s.target e) (s.start (s.target e))
     where
       not_rises : (b : Bool) → not b ≡ false → b ≡ true
       not_rises true h = refl

@@ -115,7 +115,7 @@ module _ {V : Type 0} {fits : List ℕ → V → Type 0} {height : List ℕ → 
       };
     },
     sum_below_le (λ e. rank k (value_at s xs (s.source e)) + follows_left s waits (all_left s node) e) (λ e. rank k (value_at s xs (s.source e)) + follows_left s waits (some_left s node next) e) s.edges
-    (λ e h. let l = one_if_from (some_left s node next e) (all_left s node e) (some_from_all s outgoing sources node next e) in omega (arith, l)),
+        (λ e h. let l = one_if_from (some_left s node next e) (all_left s node e) (some_from_all s outgoing sources node next e) in omega (arith, l)),
   )
 
   pub visit_next : (next : Option ℕ) → IsAtEdge fits rank below k s node next xs waits → (e : ℕ) → next ≡ Some e
@@ -136,7 +136,7 @@ module _ {V : Type 0} {fits : List ℕ → V → Type 0} {height : List ℕ → 
               (next_keeps s outgoing sources node e here.is_edge here.is_from after is);
         },
         subst W (sym next_is) (followed_work lat k s flow xs waits (some_left s node (Some e)) here.state e here.is_edge ys marked follows (some_left s node after)
-        (next_had s outgoing sources node e here.is_edge here.is_from after is) (next_has_not s outgoing sources node e here.is_edge here.is_from after is)
-        (next_fewer s outgoing sources node e here.is_edge here.is_from after is)),
+            (next_had s outgoing sources node e here.is_edge here.is_from after is) (next_has_not s outgoing sources node e here.is_edge here.is_from after is)
+            (next_fewer s outgoing sources node e here.is_edge here.is_from after is)),
         followed_visits lat k s flow xs waits (some_left s node (Some e)) here.state e here.is_edge ys marked follows (some_left s node after),
       )

@@ -80,19 +80,13 @@ fn all_of_the_ring(rt: HostRuntime) -> Result<(), Fail> {
 #[test]
 fn lattices_of_lattices(rt: HostRuntime) -> Result<(), Fail> {
     let mut low = Lifted::NotReached;
-    let mut items = Vec::new(rt.alloc());
-    items.push(false)?;
-    items.push(true)?;
     let rows = Lifted::Reached(Pair {
-        first: Rows::new(items),
+        first: Rows::new(Vec::from_array(rt.alloc(), [false, true])?),
         second: false,
     });
     assert!(rt; low.leq(&rows));
     low.join(&rows)?;
-    assert!(rt; rows.leq(&low));
-    let copy = low.copy()?;
-    assert!(rt; copy.leq(&rows));
-    if let Lifted::Reached(Pair { first, second }) = copy {
+    if let Lifted::Reached(Pair { first, second }) = low.copy()? {
         assert_eq!(rt; first.into_vec().as_slice(), [false, true].as_slice());
         assert!(rt; !second);
     }

@@ -22,7 +22,7 @@ loop-next-smaller g c =
     let k = g.F.Flow.kind c.args.flow.now in
     let i = c.loop-next.invariant in
     let next = visit_next g.met.F.Value.Lattice.laws k s (g.met.F.Flow.laws c.args.flow.now) c.args.outgoing.now c.requires.sources c.args.node c.loop-next.values.items c.loop-next.waiting
-        c.loop-next.next (record { is_edge = i.is_edge; is_from = i.is_from; state = i.state }) c.in-Some.edge c.in-Some.is c.follow.new.values.items c.follow.new.waiting c.in_ok-follow.ensures c.next-next.result c.next-next.ensures in
+    c.loop-next.next (record { is_edge = i.is_edge; is_from = i.is_from; state = i.state }) c.in-Some.edge c.in-Some.is c.follow.new.values.items c.follow.new.waiting c.in_ok-follow.ensures c.next-next.result c.next-next.ensures in
     next.1
 
 pub loop-next-preserved : goal.loop-next-preserved
@@ -31,7 +31,7 @@ loop-next-preserved g c =
     let k = g.F.Flow.kind c.args.flow.now in
     let i = c.loop-next.invariant in
     let next = visit_next g.met.F.Value.Lattice.laws k s (g.met.F.Flow.laws c.args.flow.now) c.args.outgoing.now c.requires.sources c.args.node c.loop-next.values.items c.loop-next.waiting
-        c.loop-next.next (record { is_edge = i.is_edge; is_from = i.is_from; state = i.state }) c.in-Some.edge c.in-Some.is c.follow.new.values.items c.follow.new.waiting c.in_ok-follow.ensures c.next-next.result c.next-next.ensures in
+    c.loop-next.next (record { is_edge = i.is_edge; is_from = i.is_from; state = i.state }) c.in-Some.edge c.in-Some.is c.follow.new.values.items c.follow.new.waiting c.in_ok-follow.ensures c.next-next.result c.next-next.ensures in
     record {
       is_edge = next.0.is_edge;
       is_from = next.0.is_from;

@@ -11,8 +11,8 @@ places_found : (order places : List ℕ) (nodes done : ℕ) → length places �
     → done ≤ length order → ArePlaces order places nodes
 places_found order places nodes done each once all has in_order node_at few =
     let found : (n : ℕ) → n < nodes → (q : ℕ) × (q < done) × (slice_index order q ≡ n) = λ n h.
-        let m = has n h in
-        let lt = m.1 in (m.0, omega (arith, lt, all), sym (get_or_default order m.0 n 0 m.1) ∙ m.2) in
+    let m = has n h in
+    let lt = m.1 in (m.0, omega (arith, lt, all), sym (get_or_default order m.0 n 0 m.1) ∙ m.2) in
     record {
       each = each;
       in_order = λ n h.
