@@ -1,0 +1,102 @@
+//! The edges of the call graph.
+
+ghost use Rattle.std.specs.Prelude.{◌≡◌, ◌<◌, ◌++◌, ◌∷◌, ◌^◌, length, sum_by, OnOk, IfOk, List, map};
+ghost use Rattle.gimple_core.specs.Size.{size_of_block, size_of_function, size_of_program};
+ghost use Rattle.gimple_core.specs.Run.{call_of};
+ghost use Rattle.call_graph.specs.Calls.{call_edges, body_edges, block_edges, function_edges, edges_of, AreDistinct, names_of as names_in};
+
+use crate::names::{FunctionNames, names_of};
+use gimple_core::{Block, Edge, Edges, Function, OutOfMemory, Point, Program, Stmt};
+use std::alloc::Global as Heap;
+
+/// Puts the edge of a call behind the others.
+#[tactic(auto, using(crate::proofs::Naming::number_within))]
+fn push_call<'a>(
+    names: &FunctionNames<'a>,
+    statement: &'a Stmt,
+    point: Point,
+    edges: &mut Edges,
+) -> Result<(), OutOfMemory>
+    requires { length names.now < 2 ^ 32 }
+    ensures { OnOk result (edges.new ≡ edges.old ++ call_edges names.now point (call_of statement.now)) }
+{
+    match statement {
+        Stmt::Call { callee, .. } => edges.push(Edge {
+            caller: point.function,
+            point,
+            callee: names.number_of(callee.as_slice()) as u32,
+        }),
+        _ => Ok(()),
+    }
+}
+
+/// Puts the edges of a block's statements behind the others.
+#[tactic(auto, unfolding(crate::specs::Calls::body_edges))]
+fn push_body<'a>(
+    names: &FunctionNames<'a>,
+    body: &'a [Stmt],
+    function: u32,
+    block: u32,
+    edges: &mut Edges,
+) -> Result<(), OutOfMemory>
+    requires names { length names.now < 2 ^ 32 }
+    requires few { length body.now < 2 ^ 32 }
+    ensures { OnOk result (edges.new ≡ edges.old ++ body_edges names.now function block 0 body.now) }
+{
+    for (index, statement) in body.iter().enumerate() {
+        let index = index as u32;
+        push_call(names, statement, Point { function, block, index }, edges)?;
+    }
+    Ok(())
+}
+
+/// Puts the edges of a function's blocks behind the others.
+#[tactic(auto, using(crate::proofs::Sizes::many_blocks), unfolding(crate::specs::Calls::block_edges))]
+fn push_blocks<'a>(
+    names: &FunctionNames<'a>,
+    blocks: &'a [Block],
+    function: u32,
+    edges: &mut Edges,
+) -> Result<(), OutOfMemory>
+    requires names { length names.now < 2 ^ 32 }
+    requires size { sum_by size_of_block blocks.now < 2 ^ 32 }
+    ensures { OnOk result (edges.new ≡ edges.old ++ block_edges names.now function 0 blocks.now) }
+{
+    for (number, block) in blocks.iter().enumerate() {
+        push_body(names, block.body.as_slice(), function, number as u32, edges)?;
+    }
+    Ok(())
+}
+
+/// Puts the edges of functions behind the others.
+#[tactic(auto, unfolding(crate::specs::Calls::function_edges))]
+fn push_functions<'a>(
+    names: &FunctionNames<'a>,
+    functions: &'a [Function],
+    edges: &mut Edges,
+) -> Result<(), OutOfMemory>
+    requires names { length names.now < 2 ^ 32 }
+    requires few { length functions.now < 2 ^ 32 }
+    requires size { sum_by size_of_function functions.now < 2 ^ 32 }
+    ensures { OnOk result (edges.new ≡ edges.old ++ function_edges names.now 0 functions.now) }
+{
+    for (number, function) in functions.iter().enumerate() {
+        push_blocks(names, function.blocks.as_slice(), number as u32, edges)?;
+    }
+    Ok(())
+}
+
+/// The edges of a program whose functions have distinct names.
+#[tactic(auto, unfolding(crate::specs::Calls::edges_of))]
+pub fn edges_in(alloc: Heap, program: &Program) -> Result<Edges, OutOfMemory>
+    requires distinct { AreDistinct (names_in program.now) }
+    requires few { length program.now.functions < 2 ^ 32 }
+    requires size { size_of_program program.now < 2 ^ 32 }
+    ensures { IfOk result (λ edges. edges ≡ edges_of program.now) }
+{
+    let functions = program.functions.as_slice();
+    let names = names_of(alloc, functions)?;
+    let mut edges = Edges::new(alloc);
+    push_functions(&names, functions, &mut edges)?;
+    Ok(edges)
+}
