@@ -1,2 +1,9 @@
+pub mod Members
 pub mod Naming
 pub mod Sizes
+pub mod Calling
+pub mod Walking
+pub mod Filling
+pub mod Bridge
+pub mod Callees
+pub mod Keeping

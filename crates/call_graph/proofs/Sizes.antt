@@ -1,5 +1,5 @@
 -- Sizes bound numbers.
-use Rattle.std.proofs.Common.{◌≡◌, ℕ, ◌+◌, ◌≤◌, List, [], ◌∷◌, length, sum_by, arith}
+use Rattle.std.proofs.Common.{◌≤◌, List, [], ◌∷◌, length, sum_by, arith}
 use Rattle.std.proofs.lemmas.List.Sums.{sum_by-cons}
 use Rattle.gimple_ir.specs.declared.block.Block.{Block}
 use Rattle.gimple_core.specs.Size.{size_of_block}

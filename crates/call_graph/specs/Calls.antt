@@ -1,5 +1,5 @@
 -- The call statements of a program, as edges between the numbers of its functions.
-use Rattle.std.specs.Prelude.{◌≡◌, ◌<◌, length, slice_index_or, ℕ, ◌+◌, ◌==◌, Bool, true, false, List, [], ◌∷◌, ◌++◌, map, Option, Some, None}
+use Rattle.std.specs.Prelude.{◌≡◌, ◌<◌, length, slice_index_or, slice_get, ℕ, ◌+◌, ◌==◌, Bool, true, false, List, [], ◌∷◌, ◌++◌, map, Option, Some, None}
 use Rattle.std.specs.List.{position_or_len}
 use Rattle.gimple_ir.specs.declared.block.Block.{Block}
 use Rattle.gimple_ir.specs.declared.point.Edge.{Edge}
@@ -8,7 +8,8 @@ use Rattle.gimple_ir.specs.declared.program.Function.{Function}
 use Rattle.gimple_ir.specs.declared.program.Program.{Program}
 use Rattle.gimple_ir.specs.declared.statement.Stmt.{Stmt}
 use Rattle.gimple_core.specs.Names.{same_name}
-use Rattle.gimple_core.specs.Run.{Calling, call_of}
+use Rattle.gimple_core.specs.Run.{Calling, call_of, main_name}
+use Rattle.gimple_core.specs.Reach.{CallInBlocks}
 
 -- the names of the functions in file order
 abbrev pub names_of : Program → List (List ℕ)
@@ -57,3 +58,9 @@ callees_in (e ∷ es) caller = with_callee (caller == e.caller) e.callee (callee
 -- what each function calls, by number
 abbrev pub callees_of : Program → ℕ → List ℕ
 callees_of p caller = callees_in (edges_of p) caller
+
+-- the functions have distinct names, and there is one of each name that is called, `main` among them
+pub record CallsStand (p : Program) : Type 0 where
+  pub distinct : AreDistinct (names_of p)
+  pub main : number_in (names_of p) main_name < length p.functions
+  pub callees : (k : ℕ) (f : Function) (name : List ℕ) → slice_get p.functions k ≡ Some f → CallInBlocks name f.blocks → number_in (names_of p) name < length p.functions

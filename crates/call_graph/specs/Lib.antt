@@ -1,3 +1,4 @@
 pub mod Calls
 pub mod Graph
 pub mod Walk
+pub mod Reached

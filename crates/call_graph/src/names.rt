@@ -54,7 +54,10 @@ impl<'a> FunctionNames<'a> {
 }
 
 /// The names of functions, which are distinct.
-pub fn names_of<'a>(alloc: Heap, functions: &'a [Function]) -> Result<FunctionNames<'a>, OutOfMemory>
+pub fn names_of<'a>(
+    alloc: Heap,
+    functions: &'a [Function],
+) -> Result<FunctionNames<'a>, OutOfMemory>
     requires { AreDistinct (map (λ f. f.name) functions.now) }
     ensures { IfOk result (λ names. names ≡ map (λ f. f.name) functions.now) }
 {

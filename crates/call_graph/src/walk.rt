@@ -1,1 +1,60 @@
-//! What a node of a graph reaches.
+//! What a function reaches along edges.
+
+ghost use Rattle.std.specs.Prelude.{◌≡◌, ℕ, ◌<◌, ◌^◌, false, [], ◌∷◌, length, slice_index_or, IfOk, OnOk};
+ghost use Rattle.std.specs.List.{Contains};
+ghost use Rattle.call_graph.specs.Graph.{AreMarks};
+ghost use Rattle.call_graph.specs.Walk.{Walk, met, row_at};
+
+use gimple_core::OutOfMemory;
+use std::alloc::Global as Heap;
+
+/// What the root reaches along the edges of the rows. Each edge is followed once.
+pub fn reached_in(alloc: Heap, rows: &[Vec<u32>], root: usize) -> Result<Vec<bool>, OutOfMemory>
+    requires root { root < length rows.now }
+    requires root_small { root < 2 ^ 32 }
+    requires ends { (a b : ℕ) → Contains (row_at rows.now a) b → b < length rows.now }
+    ensures { IfOk result (λ v. AreMarks (row_at rows.now) (length rows.now) root v.items) }
+{
+    let mut marks = all_false(alloc, rows.len())?;
+    marks[root] = true;
+    let mut pending = Vec::new(alloc);
+    pending.push(root as u32)?;
+    while let Some(node) = pending.pop() {
+        meet(rows[node as usize].as_slice(), &mut marks, &mut pending)?;
+    }
+    Ok(marks)
+}
+
+/// Marks what is not marked yet, and keeps it for later.
+fn meet(row: &[u32], marks: &mut Vec<bool>, pending: &mut Vec<u32>) -> Result<(), OutOfMemory>
+    requires { (b : ℕ) → Contains row.now b → b < length marks.old.items }
+    ensures { OnOk result (record { marks = marks.new.items; pending = pending.new.items } ≡ met row.now (record { marks = marks.old.items; pending = pending.old.items })) }
+{
+    for node in row {
+        meet_one(*node, marks, pending)?;
+    }
+    Ok(())
+}
+
+fn meet_one(node: u32, marks: &mut Vec<bool>, pending: &mut Vec<u32>) -> Result<(), OutOfMemory>
+    requires { node < length marks.old.items }
+    ensures { OnOk result (record { marks = marks.new.items; pending = pending.new.items } ≡ met (node ∷ []) (record { marks = marks.old.items; pending = pending.old.items })) }
+{
+    if marks[node as usize] {
+        return Ok(());
+    }
+    marks[node as usize] = true;
+    pending.push(node)?;
+    Ok(())
+}
+
+fn all_false(alloc: Heap, count: usize) -> Result<Vec<bool>, OutOfMemory>
+    ensures each { IfOk result (λ v. (a : ℕ) → slice_index_or v.items a false ≡ false) }
+    ensures one_each { IfOk result (λ v. length v.items ≡ count) }
+{
+    let mut marks = Vec::new(alloc);
+    for _at in 0..count {
+        marks.push(false)?;
+    }
+    Ok(marks)
+}

@@ -1,4 +1,4 @@
-use Rattle.std.proofs.Common.{rules, ◌≡◌, ap, sym, ◌∙◌, List, ℕ}
+use Rattle.std.proofs.Common.{ap, sym, ◌∙◌, List, ℕ}
 use Rattle.call_graph.specs.Calls.{number_in}
 use Rattle.call_graph.proofs.Naming.{found_number, missing_number}
 use Rattle.call_graph.proofs.names.FunctionNames.number_of.Goals as goal

@@ -1,4 +1,4 @@
-use Rattle.std.proofs.Common.{rules, ◌≡◌, ◌∷◌, ◌++◌, [], ap, sym, ◌∙◌, subst, List, ℕ, false}
+use Rattle.std.proofs.Common.{◌≡◌, ◌∷◌, ◌++◌, [], ap, sym, ◌∙◌, subst, List, ℕ, false}
 use Rattle.std.specs.List.{list_any}
 use Rattle.gimple_core.specs.Names.{same_name}
 use Rattle.call_graph.proofs.Naming.{pushed_name}

@@ -1,12 +1,12 @@
 //! The edges of the call graph.
 
-ghost use Rattle.std.specs.Prelude.{◌≡◌, ◌<◌, ◌++◌, ◌∷◌, ◌^◌, length, sum_by, OnOk, IfOk, List, map};
+ghost use Rattle.std.specs.Prelude.{◌≡◌, ◌<◌, ◌++◌, ◌∷◌, ◌^◌, length, sum_by, OnOk, IfOk};
 ghost use Rattle.gimple_core.specs.Size.{size_of_block, size_of_function, size_of_program};
 ghost use Rattle.gimple_core.specs.Run.{call_of};
-ghost use Rattle.call_graph.specs.Calls.{call_edges, body_edges, block_edges, function_edges, edges_of, AreDistinct, names_of as names_in};
+ghost use Rattle.call_graph.specs.Calls.{call_edges, body_edges, block_edges, function_edges, edges_of};
 
 use crate::names::{FunctionNames, names_of};
-use gimple_core::{Block, Edge, Edges, Function, OutOfMemory, Point, Program, Stmt};
+use gimple_core::{Block, Checked, Edge, Edges, Function, OutOfMemory, Point, Stmt};
 use std::alloc::Global as Heap;
 
 /// Puts the edge of a call behind the others.
@@ -45,7 +45,16 @@ fn push_body<'a>(
 {
     for (index, statement) in body.iter().enumerate() {
         let index = index as u32;
-        push_call(names, statement, Point { function, block, index }, edges)?;
+        push_call(
+            names,
+            statement,
+            Point {
+                function,
+                block,
+                index,
+            },
+            edges,
+        )?;
     }
     Ok(())
 }
@@ -86,17 +95,29 @@ fn push_functions<'a>(
     Ok(())
 }
 
-/// The edges of a program whose functions have distinct names.
-#[tactic(auto, unfolding(crate::specs::Calls::edges_of))]
-pub fn edges_in(alloc: Heap, program: &Program) -> Result<Edges, OutOfMemory>
-    requires distinct { AreDistinct (names_in program.now) }
-    requires few { length program.now.functions < 2 ^ 32 }
-    requires size { size_of_program program.now < 2 ^ 32 }
-    ensures { IfOk result (λ edges. edges ≡ edges_of program.now) }
+/// The edges of functions with these names.
+pub fn edges_in<'a>(
+    alloc: Heap,
+    names: &FunctionNames<'a>,
+    functions: &'a [Function],
+) -> Result<Edges, OutOfMemory>
+    requires few { length functions.now < 2 ^ 32 }
+    requires names { length names.now < 2 ^ 32 }
+    requires size { sum_by size_of_function functions.now < 2 ^ 32 }
+    ensures { IfOk result (λ edges. edges ≡ function_edges names.now 0 functions.now) }
 {
-    let functions = program.functions.as_slice();
-    let names = names_of(alloc, functions)?;
     let mut edges = Edges::new(alloc);
-    push_functions(&names, functions, &mut edges)?;
+    push_functions(names, functions, &mut edges)?;
     Ok(edges)
+}
+
+/// The call statements of a program in file order, each with the number of the function that it calls.
+pub fn edges(alloc: Heap, program: &Checked) -> Result<Edges, OutOfMemory>
+    requires few { length program.now.program.functions < 2 ^ 32 }
+    requires size { size_of_program program.now.program < 2 ^ 32 }
+    ensures { IfOk result (λ edges. edges ≡ edges_of program.now.program) }
+{
+    let functions = program.program().functions.as_slice();
+    let names = names_of(alloc, functions)?;
+    edges_in(alloc, &names, functions)
 }

@@ -1,0 +1,47 @@
+-- A target added to its source's row.
+use Rattle.std.proofs.Common.{◌≡◌, ℕ, ◌+◌, ◌<◌, inl, inr, Bool, List, [], ◌∷◌, ◌++◌, length, set, get_or, drop, refl, sym, ◌∙◌, ap, subst, arith, Vec}
+use Rattle.std.specs.declared.alloc.Global.{Global}
+use Rattle.std.proofs.lemmas.List.{get_or-set_same, get_or-set_other, get_or-map, map-set, length-map, drop_more}
+use Rattle.std.proofs.lemmas.Bool.Decides.{eqb_tells}
+use Rattle.gimple_ir.specs.declared.point.Edge.{Edge}
+use Rattle.call_graph.specs.Walk.{listed, row_at}
+use Rattle.call_graph.specs.Calls.{callees_in, with_callee}
+
+pub add_here : (r rest : List ℕ) (t : ℕ) → (r ++ t ∷ []) ++ rest ≡ r ++ t ∷ rest
+add_here [] rest t = refl
+add_here (x ∷ r) rest t = λ i. x ∷ add_here r rest t i
+
+row_added : (rows : List (List ℕ)) (e : Edge) (rest : List Edge) (a : ℕ) → e.caller < length rows
+    → get_or (set rows e.caller (get_or rows e.caller [] ++ e.callee ∷ [])) a [] ++ callees_in rest a ≡ get_or rows a [] ++ callees_in (e ∷ rest) a
+unfolding callees_in
+row_added rows e rest a low =
+    let new = get_or rows e.caller [] ++ e.callee ∷ [] in
+    let P : ℕ → Type 0 = λ i. get_or (set rows e.caller new) i [] ++ callees_in rest a ≡ get_or rows i [] ++ callees_in (e ∷ rest) a in
+    let Q : ℕ → Bool → Type 0 = λ i is. get_or (set rows e.caller new) i [] ++ callees_in rest a ≡ get_or rows i [] ++ with_callee is e.callee (callees_in rest a) in
+    elim (eqb_tells a e.caller) [
+      | inl same ↦ subst P (sym same.1) (subst (Q e.caller) (sym same.0) (ap (λ (r : List ℕ). r ++ callees_in rest a) (get_or-set_same rows e.caller new [] low) ∙ add_here (get_or rows e.caller []) (callees_in rest a) e.callee))
+      | inr other ↦ subst (Q a) (sym other.0) (ap (λ (r : List ℕ). r ++ callees_in rest a) (get_or-set_other rows e.caller a new [] other.1))
+    ]
+
+pub rows_step : (rows news : List (Vec ℕ Global)) (es : List Edge) (i : ℕ) (d : Edge) → i < length es → (get_or es i d).caller < length rows
+    → listed news ≡ set (listed rows) (get_or es i d).caller (row_at rows (get_or es i d).caller ++ (get_or es i d).callee ∷ [])
+    → (a : ℕ) → row_at news a ++ callees_in (drop (i + 1) es) a ≡ row_at rows a ++ callees_in (drop i es) a
+rows_step rows news es i d inside low is a =
+    let e = get_or es i d in
+    let fits : e.caller < length (listed rows) = omega (arith, low, length-map rows (λ v. v.items)) in
+    let P : List (List ℕ) → Type 0 = λ xs. get_or xs a [] ++ callees_in (drop (i + 1) es) a ≡ row_at rows a ++ callees_in (e ∷ drop (i + 1) es) a in
+    let Q : List Edge → Type 0 = λ xs. row_at news a ++ callees_in (drop (i + 1) es) a ≡ row_at rows a ++ callees_in xs a in
+    subst Q (sym (drop_more es i d inside)) (subst P (sym is) (row_added (listed rows) e (drop (i + 1) es) a fits))
+
+pub row_is : (rows : List (Vec ℕ Global)) (i : ℕ) (v : Vec ℕ Global) → i < length rows → v ≡ get_or rows i v → v.items ≡ row_at rows i
+row_is rows i v low is =
+    let items = λ (x : Vec ℕ Global). x.items in
+    ap items is ∙ sym (get_or-map items rows i v [] low)
+
+pub row_pushed : (rows : List (Vec ℕ Global)) (i t : ℕ) (old new : Vec ℕ Global) → i < length rows → old ≡ get_or rows i old → new.items ≡ old.items ++ t ∷ [] → listed (set rows i new) ≡ set (listed rows) i (row_at rows i ++ t ∷ [])
+row_pushed rows i t old new low is more =
+    let items = λ (x : Vec ℕ Global). x.items in
+    map-set items rows i new ∙ ap (λ (r : List ℕ). set (listed rows) i r) (more ∙ ap (λ (r : List ℕ). r ++ t ∷ []) (row_is rows i old low is))
+
+pub listed_length : (rows : List (Vec ℕ Global)) → length (listed rows) ≡ length rows
+listed_length rows = length-map rows (λ v. v.items)

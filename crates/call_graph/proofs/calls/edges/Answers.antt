@@ -1,0 +1,20 @@
+use Rattle.std.proofs.Common.{◌≡◌, List, map, IfOk, refl, sym, ◌∙◌, ap, subst}
+use Rattle.gimple_ir.specs.declared.point.Edge.{Edge}
+use Rattle.gimple_ir.specs.declared.program.Function.{Function}
+use Rattle.gimple_ir.specs.declared.program.Program.{Program}
+use Rattle.call_graph.specs.Calls.{AreDistinct, function_edges}
+use Rattle.call_graph.proofs.Bridge.{edges_are}
+use Rattle.call_graph.proofs.Callees.{accepted_calls}
+use Rattle.call_graph.proofs.calls.edges.Goals as goal
+
+pub names_of-requires : goal.names_of-requires
+names_of-requires c =
+    let fs = c.as_slice-functions.ensures ∙ ap (λ (p : Program). p.functions) c.program.ensures.same in
+    let P : List Function → Type 0 = λ xs. AreDistinct (map (λ f. f.name) xs) in
+    subst P (sym fs) (accepted_calls c.args.program.now.program c.program.ensures.accepted).distinct
+
+pub returns : goal.returns
+returns c =
+    let fs = c.as_slice-functions.ensures ∙ ap (λ (p : Program). p.functions) c.program.ensures.same in
+    let P : List Edge → Type 0 = λ es. IfOk c.edges_in.result (λ edges. edges ≡ es) in
+    subst P (edges_are c.args.program.now.program c.as_slice-functions.result.now c.in_ok-names.names (function_edges c.in_ok-names.names 0 c.as_slice-functions.result.now) fs c.in_ok-names.ensures refl) c.edges_in.ensures

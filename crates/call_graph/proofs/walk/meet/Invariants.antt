@@ -1,0 +1,9 @@
+use Rattle.std.proofs.Common.{◌≡◌, drop, length}
+use Rattle.call_graph.specs.Walk.{met}
+use Rattle.call_graph.proofs.walk.meet.Given as goal
+
+abbrev pub invariant-loop-node : goal.invariant-loop-node
+invariant-loop-node l = record {
+  same : length l.marks.items ≡ length l.initial.marks.items;
+  left : met (drop l.node-index l.row) (record { marks = l.marks.items; pending = l.pending.items }) ≡ met l.row (record { marks = l.initial.marks.items; pending = l.initial.pending.items });
+}

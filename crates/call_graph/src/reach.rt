@@ -1,0 +1,76 @@
+//! The functions that `main` reaches, and programs without the others.
+
+ghost use Rattle.std.specs.Prelude.{◌≡◌, ℕ, ℤ, ◌<◌, ◌≤◌, ◌^◌, ◌++◌, List, [], length, IfOk, OnOk};
+ghost use Rattle.gimple_core.specs.Reach.{IsWithoutUnreached};
+ghost use Rattle.gimple_core.specs.Run.{Run};
+ghost use Rattle.gimple_core.specs.Size.{size_of_program};
+ghost use Rattle.call_graph.specs.Reached.{AreReached, marked, unless_dropped};
+
+use crate::calls::edges_in;
+use crate::names::names_of;
+use crate::rows::rows_of;
+use crate::walk::reached_in;
+use gimple_core::{Checked, Function, Listed, Marks, OutOfMemory, Program};
+use std::alloc::Global as Heap;
+
+/// For each function in file order, whether `main` reaches it by calls, in any block.
+pub fn reached(alloc: Heap, program: &Checked) -> Result<Marks, OutOfMemory>
+    requires few { length program.now.program.functions < 2 ^ 32 }
+    requires size { size_of_program program.now.program < 2 ^ 32 }
+    ensures { IfOk result (AreReached program.now.program) }
+{
+    let functions = program.program().functions.as_slice();
+    let names = names_of(alloc, functions)?;
+    let edges = edges_in(alloc, &names, functions)?;
+    let rows = rows_of(alloc, edges.as_slice(), functions.len())?;
+    let marks = reached_in(alloc, rows.as_slice(), names.number_of(b"main"))?;
+    Ok(Listed::from_vec(marks))
+}
+
+/// The program without the functions that `main` does not reach. It runs as the program does. After a refusal the
+/// program is gone.
+pub fn drop_unreached(alloc: Heap, program: Checked) -> Result<Checked, OutOfMemory>
+    requires few { length program.program.functions < 2 ^ 32 }
+    requires size { size_of_program program.program < 2 ^ 32 }
+    ensures dropped { IfOk result (λ after. IsWithoutUnreached program.program after.program) }
+    ensures runs { IfOk result (λ after. (input : List ℤ) (n : ℕ) → Run after.program input n ≡ Run program.program input n) }
+    ensures shrinks { IfOk result (λ after. size_of_program after.program ≤ size_of_program program.program) }
+{
+    let marks = reached(alloc, &program)?;
+    let Program {
+        structs,
+        globals,
+        functions,
+    } = program.into_program();
+    let functions = keep_marked(alloc, functions.into_vec(), marks.as_slice())?;
+    Ok(Checked::seal(Program {
+        structs,
+        globals,
+        functions: Listed::from_vec(functions),
+    }))
+}
+
+/// The functions that are marked, in their order.
+#[tactic(auto, unfolding(crate::specs::Reached::marked))]
+fn keep_marked(
+    alloc: Heap,
+    functions: Vec<Function>,
+    marks: &[bool],
+) -> Result<Vec<Function>, OutOfMemory>
+    ensures { IfOk result (λ kept. kept.items ≡ marked marks.now functions.items) }
+{
+    let mut kept = Vec::new(alloc);
+    for (function, mark) in functions.into_iter().zip(marks) {
+        push_if(&mut kept, *mark, function)?;
+    }
+    Ok(kept)
+}
+
+fn push_if(kept: &mut Vec<Function>, is: bool, function: Function) -> Result<(), OutOfMemory>
+    ensures { OnOk result (kept.new.items ≡ kept.old.items ++ unless_dropped is function []) }
+{
+    if is {
+        kept.push(function)?;
+    }
+    Ok(())
+}
