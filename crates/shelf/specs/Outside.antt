@@ -108,13 +108,13 @@ StoreAnswer old new name bytes StoredFailed =
 abbrev pub Appends : Option (List ℕ) → Option (List ℕ) → List ℕ → Type 0
 Appends old new bytes = new ≡ option_map (λ told. told ++ bytes) old
 
--- A tell was cut: its count rose, and a part of the bytes was told. What surely fits is not cut.
+-- A tell was cut: its count rose, and a part of the bytes was told, where that is told.
 pub record IsToldCut (old new : Meaning) (bytes : List ℕ) : Type 0 where
   pub rose : Rose old.tell_faults new.tell_faults
   pub kept : ℕ
   pub told : Appends old.told new.told (take kept bytes)
-  pub unsure : IfSome old.sure (λ r. r < length bytes)
 
+-- What a tell does. What surely fits is told whole.
 pub record Tells (old new : Meaning) (bytes : List ℕ) : Type 0 where
   pub sources : new.sources ≡ old.sources
   pub stores : new.stores ≡ old.stores
@@ -123,4 +123,4 @@ pub record Tells (old new : Meaning) (bytes : List ℕ) : Type 0 where
   pub taken : new.taken ≡ old.taken
   pub tell : old.tell_faults ≤ new.tell_faults
   pub told : Appends old.told new.told bytes ⊎ IsToldCut old new bytes
-  pub sure : IfSome old.sure (λ r. length bytes ≤ r → (new.sure ≡ Some (r - length bytes)) × (new.tell_faults ≡ old.tell_faults))
+  pub sure : IfSome old.sure (λ r. length bytes ≤ r → (new.sure ≡ Some (r - length bytes)) × (new.tell_faults ≡ old.tell_faults) × Appends old.told new.told bytes)
