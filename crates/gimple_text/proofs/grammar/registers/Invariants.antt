@@ -1,0 +1,10 @@
+use Rattle.std.proofs.Common.{◌≡◌, ◌-◌, length, [], ◌∷◌}
+use Rattle.gimple_tokens.specs.declared.token.Symbol.TheVariants.{I32}
+use Rattle.token_law.specs.Reading.{sees, many_from}
+use Rattle.gimple_text.specs.Readers.{declared_register}
+use Rattle.gimple_text.proofs.grammar.registers.Given as goal
+
+abbrev pub invariant-loop-turn : goal.invariant-loop-turn
+invariant-loop-turn l =
+    many_from (sees I32) declared_register (length l.fn.tokens) [] l.fn.tokens
+    ≡ many_from (sees I32) declared_register (length l.fn.tokens - l._turn) l.found l.tokens

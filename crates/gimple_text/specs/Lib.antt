@@ -1,0 +1,5 @@
+pub mod Grammar
+pub mod Readers
+pub mod TokenFaults
+pub mod Parse
+pub mod Canon
