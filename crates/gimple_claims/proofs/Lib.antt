@@ -9,3 +9,9 @@ pub mod Kept
 pub mod Along
 pub mod Instances
 pub mod Entries
+pub mod Lists
+pub mod Acts
+pub mod Locals
+pub mod Living
+pub mod ReadOnly
+pub mod Registers

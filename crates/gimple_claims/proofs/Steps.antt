@@ -14,6 +14,7 @@ use Rattle.gimple_core.specs.Run.{step, stepped, given, cells_made, with_locals,
 use Rattle.gimple_core.specs.Trace.{Event, Entry, At, Load, Store, Leave, main_entry, told, told_by, access, crossing, after}
 use Rattle.gimple_claims.specs.Runs.{Comes}
 use Rattle.gimple_claims.specs.Bodies.{EachOf}
+use Rattle.gimple_claims.specs.Laws.{IsOlder, OlderFrames, Older, SerialsGrow}
 use Rattle.gimple_claims.specs.Exits.{ToLabel, Returns, exit_of}
 use Rattle.gimple_claims.proofs.Accesses.{access_all}
 use Rattle.gimple_claims.proofs.Comes.{InDid, IsKept, holds}
@@ -80,22 +81,6 @@ pub step_is : (p : Program) (s : State) → Steps p s (step p s)
 step_is p s = stepped_is p s s.top.rest refl
 
 -- ---- serials: each frame and each event is older than the next serial
-
-abbrev pub IsOlder : ℕ → Event → Type 0
-IsOlder n (Entry s g arguments m caller) = s < n
-IsOlder n (At c w) = c.serial < n
-IsOlder n (Load c scalar object offset v) = c.serial < n
-IsOlder n (Store c scalar object offset v) = c.serial < n
-IsOlder n (Leave s) = s < n
-
-abbrev OlderFrames : ℕ → List Frame → Type 0
-OlderFrames n [] = Unit {0}
-OlderFrames n (f ∷ fs) = (f.control.serial < n) × OlderFrames n fs
-
-pub record Older (past : List Event) (s : State) : Type 0 where
-  pub top : s.top.serial < s.next
-  pub below : OlderFrames s.next s.below
-  pub past_older : EachOf (IsOlder s.next) past
 
 frames_more : (n m : ℕ) (fs : List Frame) → n ≤ m → OlderFrames n fs → OlderFrames m fs
 frames_more n m [] l h = tt
@@ -165,5 +150,5 @@ older_kept p input = record {
   keep = λ past s h. older_did p past s h (step p s) (step_is p s) (λ m l c. told_older p past s m h l c);
 }
 
-pub older : (p : Program) (input : List ℤ) (past : List Event) (s : State) → Comes p input past s → Older past s
+pub older : SerialsGrow
 older p input past s c = holds p input Older (older_kept p input) past s c

@@ -4,3 +4,4 @@ pub mod Bodies
 pub mod Kept
 pub mod Instances
 pub mod Stack
+pub mod Laws

@@ -1,14 +1,30 @@
-//! What holds in every run of a program.
+//! What holds in every run of a program, as laws: a state comes up in a run after the events that lie before it.
 #![tactic(auto)]
 
-ghost use Rattle.std.specs.Prelude.{◌≡◌, ℤ, List};
-ghost use Rattle.gimple_ir.specs.declared.program.Program.{Program};
-ghost use Rattle.gimple_core.specs.State.{State};
-ghost use Rattle.gimple_core.specs.Trace.{Event};
-ghost use Rattle.gimple_claims.specs.Runs.{Comes};
-ghost use Rattle.gimple_claims.specs.Stack.{live, serials};
+ghost use Rattle.gimple_claims.specs.Laws.{SerialsGrow, FramesAreLiveCalls, LivingAreOfFrames, ReadOnlyKeep, RegistersAreDeclared};
+
+/// Each frame and each event so far has a serial below the next one.
+pub fn serials_grow()
+    ensures { SerialsGrow }
+{}
 
 /// The frames of a state are the calls that have begun and not returned, by what has happened so far.
 pub fn frames_are_live_calls()
-    ensures { (p : Program) (input : List ℤ) (past : List Event) (s : State) → Comes p input past s → live past ≡ serials s }
+    ensures { FramesAreLiveCalls }
+{}
+
+/// Each living object is a global or a local of a frame of the state; so an object of a frame that has returned is dead,
+/// and stays dead, since new frames have new serials.
+pub fn living_objects_are_of_frames()
+    ensures { LivingAreOfFrames }
+{}
+
+/// The slots of a read-only global hold what they held when the run began.
+pub fn read_only_globals_keep()
+    ensures { ReadOnlyKeep }
+{}
+
+/// Each frame has the formals and registers of its function, under their names and scalars.
+pub fn registers_are_declared()
+    ensures { RegistersAreDeclared }
 {}

@@ -168,14 +168,14 @@ run_same K p gs closed agree input n =
 
 -- ---- the functions of a closed set, and those that are reached
 
-first_kept_of : (test keep : Function → Bool) (f : Function) (fs gs : List Function) → (test f ≡ true → keep f ≡ true) → find test gs ≡ find test fs → (a b : Bool) → a ≡ test f → b ≡ keep f → find test (cond b (f ∷ gs) gs) ≡ (if a then Some f else find test fs)
+first_kept_of : {X : Type 0} (test keep : X → Bool) (f : X) (fs gs : List X) → (test f ≡ true → keep f ≡ true) → find test gs ≡ find test fs → (a b : Bool) → a ≡ test f → b ≡ keep f → find test (cond b (f ∷ gs) gs) ≡ (if a then Some f else find test fs)
 first_kept_of test keep f fs gs h e true true x y = rw (← x) refl
 first_kept_of test keep f fs gs h e true false x y = let k = h (sym x) in cc
 first_kept_of test keep f fs gs h e false true x y = rw (← x) e
 first_kept_of test keep f fs gs h e false false x y = e
 
 -- a search finds the same in a filtered list where the filter keeps what passes the test
-pub first_kept : (test keep : Function → Bool) → ((f : Function) → test f ≡ true → keep f ≡ true) → (fs : List Function) → find test (filter keep fs) ≡ find test fs
+pub first_kept : {X : Type 0} (test keep : X → Bool) → ((f : X) → test f ≡ true → keep f ≡ true) → (fs : List X) → find test (filter keep fs) ≡ find test fs
 first_kept test keep h [] = refl
 first_kept test keep h (f ∷ fs) = first_kept_of test keep f fs (filter keep fs) (h f) (first_kept test keep h fs) (test f) (keep f) refl refl
 
@@ -185,7 +185,7 @@ unfolding function_named
 kept_runs p keeps closed input n =
     run_same (λ name. IsTrue (keeps name)) p (filter (λ f. keeps f.name) p.functions)
     (record { begins = closed.main; calls = λ name f k e callee c. closed.calls name f callee k e c })
-    (λ name k. first_kept (λ f. same_name f.name name) (λ f. keeps f.name) (λ f t. rw (same_name_true f.name name t) k) p.functions)
+    (λ name k. first_kept (λ (f : Function). same_name f.name name) (λ (f : Function). keeps f.name) (λ f t. rw (same_name_true f.name name t) k) p.functions)
     input n
 
 -- the reached functions are a closed set

@@ -226,7 +226,7 @@ functions_kept known keep some more number place (f ∷ fs) fewer a h =
 kept_agrees : (keeps : List ℕ → Bool) (fs : List Function) (name : List ℕ) → IsTrue (keeps name) → Agrees (functions_by_name (filter (λ f. keeps f.name) fs)) (functions_by_name fs) name
 kept_agrees keeps fs name k =
     named_find (λ f. f.name) name (filter (λ f. keeps f.name) fs)
-    ∙ first_kept (λ f. same_name f.name name) (λ f. keeps f.name) (λ f t. rw (same_name_true f.name name t) k) fs
+    ∙ first_kept (λ (f : Function). same_name f.name name) (λ (f : Function). keeps f.name) (λ f t. rw (same_name_true f.name name t) k) fs
     ∙ sym (named_find (λ f. f.name) name fs)
 
 -- the calls of the kept functions stay within the set

@@ -1,0 +1,101 @@
+-- What holds of each state that comes up in a run.
+use Rattle.std.specs.Prelude.{◌≡◌, ◌<◌, ℕ, ◌==◌, ◌++◌, ℤ, Bool, true, false, List, [], ◌∷◌, map, filter, find, Option, Some, None}
+use Rattle.std.specs.List.{list_any, list_all}
+use Rattle.gimple_ir.specs.declared.scalar.Scalar.{Scalar}
+use Rattle.gimple_ir.specs.declared.declarations.Register.{Register}
+use Rattle.gimple_ir.specs.declared.value.Object.{Object}
+use Rattle.gimple_ir.specs.declared.value.Object.TheVariants.{Global, Local}
+use Rattle.gimple_ir.specs.declared.program.Program.{Program}
+use Rattle.gimple_core.specs.declared.machine.Cell.{Cell}
+use Rattle.gimple_core.specs.declared.machine.Extent.{Extent}
+use Rattle.gimple_core.specs.declared.machine.MemorySlot.{MemorySlot}
+use Rattle.gimple_core.specs.Memory.{Memory, same_object}
+use Rattle.gimple_core.specs.State.{Control, Frame, State}
+use Rattle.gimple_core.specs.Run.{start}
+use Rattle.gimple_core.specs.Trace.{Event, Entry, At, Load, Store, Leave}
+use Rattle.gimple_claims.specs.Runs.{Comes}
+use Rattle.gimple_claims.specs.Bodies.{EachOf}
+use Rattle.gimple_claims.specs.Stack.{live, serials}
+
+-- ---- serials
+
+abbrev pub IsOlder : ℕ → Event → Type 0
+IsOlder n (Entry s g arguments m caller) = s < n
+IsOlder n (At c w) = c.serial < n
+IsOlder n (Load c scalar object offset v) = c.serial < n
+IsOlder n (Store c scalar object offset v) = c.serial < n
+IsOlder n (Leave s) = s < n
+
+abbrev pub OlderFrames : ℕ → List Frame → Type 0
+OlderFrames n [] = Unit {0}
+OlderFrames n (f ∷ fs) = (f.control.serial < n) × OlderFrames n fs
+
+pub record Older (past : List Event) (s : State) : Type 0 where
+  pub top : s.top.serial < s.next
+  pub below : OlderFrames s.next s.below
+  pub past_older : EachOf (IsOlder s.next) past
+
+-- each frame and each event has a serial below the next one
+abbrev pub SerialsGrow : Type 0
+SerialsGrow = (p : Program) (input : List ℤ) (past : List Event) (s : State) → Comes p input past s → Older past s
+
+-- the frames are the calls that have begun and not returned
+abbrev pub FramesAreLiveCalls : Type 0
+FramesAreLiveCalls = (p : Program) (input : List ℤ) (past : List Event) (s : State) → Comes p input past s → live past ≡ serials s
+
+-- ---- what lives
+
+-- a global, or a local of a frame of one of these serials
+abbrev pub lives_in : List ℕ → Object → Bool
+lives_in ns (Global k) = true
+lives_in ns (Local serial k) = list_any (λ n. n == serial) ns
+
+-- each living object is a global or a local of a frame of the state
+abbrev pub LivingAreOfFrames : Type 0
+LivingAreOfFrames = (p : Program) (input : List ℤ) (past : List Event) (s : State) → Comes p input past s → list_all (λ x. lives_in (serials s) x.object) s.world.memory.living ≡ true
+
+-- ---- read-only globals
+
+abbrev pub constant_of : Option Extent → Bool
+constant_of None = false
+constant_of (Some x) = x.constant
+
+-- whether the global lives and no store may go there
+abbrev pub is_read_only : ℕ → Memory → Bool
+is_read_only k m = constant_of (find (λ x. same_object x.object (Global k)) m.living)
+
+abbrev pub slots_of : ℕ → Memory → List MemorySlot
+slots_of k m = filter (λ x. same_object x.object (Global k)) m.slots
+
+-- the slots of a read-only global hold what they held when the run began
+abbrev pub ReadOnlyKeep : Type 0
+ReadOnlyKeep = (p : Program) (input : List ℤ) (past : List Event) (first s : State) (k : ℕ) → start p input ≡ Some first → Comes p input past s →
+    is_read_only k first.world.memory ≡ true → slots_of k s.world.memory ≡ slots_of k first.world.memory
+
+-- ---- registers
+
+pub record Key : Type 0 where
+  pub name : List ℕ
+  pub scalar : Scalar
+
+abbrev pub keys : List Cell → List Key
+keys cells = map (λ c. record { name = c.name; scalar = c.scalar }) cells
+
+abbrev pub register_keys : List Register → List Key
+register_keys rs = map (λ r. record { name = r.name; scalar = r.scalar }) rs
+
+-- the registers are the function's formals and registers, in their order
+abbrev pub HasRegisters : Control → List Cell → Type 0
+HasRegisters c cells = keys cells ≡ register_keys (c.function.params ++ c.function.registers)
+
+abbrev pub FramesHaveRegisters : List Frame → Type 0
+FramesHaveRegisters [] = Unit {0}
+FramesHaveRegisters (f ∷ fs) = HasRegisters f.control f.cells × FramesHaveRegisters fs
+
+pub record StateHasRegisters (s : State) : Type 0 where
+  pub top : HasRegisters s.top s.world.cells
+  pub below : FramesHaveRegisters s.below
+
+-- each frame has the registers of its function
+abbrev pub RegistersAreDeclared : Type 0
+RegistersAreDeclared = (p : Program) (input : List ℤ) (past : List Event) (s : State) → Comes p input past s → StateHasRegisters s
