@@ -3,3 +3,8 @@ pub mod Programs
 pub mod Theorems
 pub mod Composed
 pub mod FaultLaws
+pub mod CanonTokens
+pub mod CanonLexes
+pub mod CanonSpelled
+pub mod Spelled
+pub mod Laws

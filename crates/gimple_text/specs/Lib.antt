@@ -3,3 +3,4 @@ pub mod Readers
 pub mod TokenFaults
 pub mod Parse
 pub mod Canon
+pub mod CanonLaws

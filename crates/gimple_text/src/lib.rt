@@ -9,4 +9,4 @@ mod printer;
 pub use fault::TextFault;
 pub use gimple_tokens::Spot;
 pub use parser::{fault_excludes, one_fault, one_program, parse};
-pub use printer::print;
+pub use printer::{canon_spells, print, spellable_has_text};

@@ -4,6 +4,7 @@ ghost use Rattle.std.specs.Prelude.{◌≡◌, ◌++◌, OnOk, IfOk};
 ghost use Rattle.std.specs.List.{flat_map};
 ghost use Rattle.std.specs.Fmt.{decimal, signed_decimal};
 ghost use Rattle.gimple_text.specs.Canon as spec;
+ghost use Rattle.gimple_text.specs.CanonLaws.{CanonSpells, SpellableHasText};
 
 use gimple_ir::{
     Base, Block, Case, Cmp, Decl, End, Function, Global, Op, Operand, OutOfMemory, Place, Program,
@@ -596,3 +597,13 @@ pub fn print(alloc: Heap, program: &Program) -> Result<Text, OutOfMemory>
     put_functions(&mut out, program.functions.as_slice())?;
     Ok(out)
 }
+
+/// The canonical text of a program that some text has spells the program.
+pub fn canon_spells()
+    ensures { CanonSpells }
+{}
+
+/// A program is spellable exactly where some text spells it.
+pub fn spellable_has_text()
+    ensures { SpellableHasText }
+{}

@@ -1,0 +1,17 @@
+-- Laws of the canonical text.
+use Rattle.std.specs.Prelude.{◌↔◌}
+use Rattle.gimple_ir.specs.declared.program.Program.{Program}
+use Rattle.gimple_tokens.specs.Lexing.{Bytes}
+use Rattle.gimple_text.specs.Parse.{Spells}
+use Rattle.gimple_text.specs.Canon.{canon, IsSpellable}
+
+-- the canonical text spells the program
+abbrev pub CanonSpells : Type 0
+CanonSpells = (p : Program) → IsSpellable p → Spells (canon p) p
+
+-- some text spells the program
+abbrev pub HasText : Program → Type 0
+HasText p = (bs : Bytes) × Spells bs p
+
+abbrev pub SpellableHasText : Type 0
+SpellableHasText = (p : Program) → IsSpellable p ↔ HasText p
