@@ -1,0 +1,111 @@
+-- The state that the interpreter's machine stands for.
+use Rattle.std.specs.List.{All}
+use Rattle.std.specs.Prelude.{◌≡◌, ℕ, ℤ, ◌+◌, ◌<◌, ◌≤◌, ◌^◌, ◌++◌, List, [], ◌∷◌, map, reverse, drop, length, slice_index_or, Option, Some, None}
+use Rattle.gimple_ir.specs.declared.block.End.TheVariants.{Return}
+use Rattle.gimple_ir.specs.declared.block.Block.{Block}
+use Rattle.gimple_ir.specs.declared.program.Function.{Function}
+use Rattle.gimple_ir.specs.declared.program.Program.{Program}
+use Rattle.gimple_core.specs.declared.machine.Cell.{Cell}
+use Rattle.gimple_core.specs.State.{Control, Frame, State}
+use Rattle.gimple_core.specs.Memory.{Memory}
+use Rattle.gimple_core.specs.Layout.{HasLayout}
+use Rattle.gimple_core.specs.Run as run
+use Rattle.gimple_core.specs.Run.{paused, start, cells_made, with_locals, with_globals, no_memory, Goes as GoesOn, Reaches as Ends}
+use Rattle.gimple_ir.specs.declared.value.Outcome.TheVariants.{Going}
+use Rattle.gimple_exec.specs.declared.machine.Stand.{Stand}
+use Rattle.gimple_exec.specs.declared.machine.Waiting.{Waiting}
+use Rattle.gimple_exec.specs.declared.machine.Machine.{Machine}
+use Rattle.gimple_exec.specs.declared.machine.Step.{Step}
+use Rattle.gimple_exec.specs.declared.machine.Step.TheVariants.{Goes, Reaches}
+use Rattle.gimple_exec.specs.declared.machine.Reach.{Reach}
+use Rattle.gimple_exec.specs.declared.machine.Reach.TheVariants.{Moves, Spent, Stops, Traps}
+use Rattle.gimple_exec.specs.Acts.{world_of}
+
+abbrev pub no_block : Block
+no_block = record { label = 0; body = []; end = Return None }
+
+abbrev pub no_function : Function
+no_function = record { name = []; params = []; result = None; locals = []; registers = []; blocks = [] }
+
+abbrev pub function_of : Program → ℕ → Function
+function_of p k = slice_index_or p.functions k no_function
+
+abbrev pub block_of : Function → ℕ → Block
+block_of f k = slice_index_or f.blocks k no_block
+
+-- the frame that stands at a place of this function and block
+abbrev pub control_at : Function → Block → Stand → Control
+control_at f b s = record { function = f; block = s.block; index = s.index; rest = drop s.index b.body; end = b.end; serial = s.serial; takes = s.takes }
+
+abbrev pub control_of : Program → Stand → Control
+control_of p s = control_at (function_of p s.function) (block_of (function_of p s.function) s.block) s
+
+abbrev pub frame_of : Program → Waiting → Frame
+frame_of p w = record { control = control_of p w.stand; cells = w.cells }
+
+abbrev pub state_of : Program → Machine → State
+state_of p m = record { top = control_of p m.top; below = map (frame_of p) (reverse m.below.items); world = world_of m.world; next = m.next }
+
+-- a place of the program
+pub record IsPlaced (p : Program) (s : Stand) : Type 0 where
+  pub function : s.function < length p.functions
+  pub block : s.block < length (function_of p s.function).blocks
+  pub index : s.index ≤ length (block_of (function_of p s.function) s.block).body
+
+abbrev pub ArePlaced : Program → List Waiting → Type 0
+ArePlaced p [] = Unit {0}
+ArePlaced p (w ∷ ws) = IsPlaced p w.stand × ArePlaced p ws
+
+-- every frame is at a place of the program
+pub record IsSound (p : Program) (m : Machine) : Type 0 where
+  pub top : IsPlaced p m.top
+  pub below : ArePlaced p (reverse m.below.items)
+
+-- the numbers of globals and locals are those of objects, and each variable has a layout
+pub record IsLimited (p : Program) : Type 0 where
+  pub globals : length p.globals < 2 ^ 32
+  pub locals : (k : ℕ) → length (function_of p k).locals < 2 ^ 32
+  pub global_layouts : All (λ g. HasLayout p.structs g.decl) p.globals
+  pub local_layouts : (k : ℕ) → All (λ d. HasLayout p.structs d) (function_of p k).locals
+
+-- The machine arrives where the definition does, from a state with this next serial: it has moved on, and stays sound; or the
+-- next serial is past those of frames, and the output alone is right; or the run is over.
+abbrev pub Arrives : Program → ℕ → Reach → run.Reached → Machine → Type 0
+Arrives p n Moves r m = (k : run.Transfer) × (r ≡ run.Moves k (state_of p m)) × IsSound p m × (m.next ≤ n + 1)
+Arrives p n Spent r m = (2 ^ 64 ≤ n) × (paused r ≡ Going m.world.output)
+Arrives p n (Stops z) r m = r ≡ run.Stops m.world.output z
+Arrives p n (Traps kind) r m = r ≡ run.Traps m.world.output kind
+
+abbrev pub ArrivesBy : Program → ℕ → Reach → run.Did → Machine → Type 0
+ArrivesBy p n reach (GoesOn s) m = ⊥
+ArrivesBy p n reach (Ends r) m = Arrives p n reach r m
+
+-- a step of the machine is one of the definition, and stays sound where the run goes on
+abbrev pub Leads : Program → ℕ → Step → run.Did → Machine → Type 0
+Leads p n Goes d m = (d ≡ run.Goes (state_of p m)) × IsSound p m × (m.next ≡ n)
+Leads p n (Reaches reach) d m = ArrivesBy p n reach d m
+
+-- a frame begins, and the one that ran waits
+pub record Begins (old : Machine) (function : ℕ) (takes : Option (List ℕ)) (cells : List Cell) (memory : Memory) (new : Machine) : Type 0 where
+  pub top : new.top ≡ record { function = function; block = 0; index = 0; serial = old.next; takes = takes }
+  pub below : new.below.items ≡ old.below.items ++ record { stand = old.top; cells = old.world.cells } ∷ []
+  pub world : world_of new.world ≡ record (world_of old.world) { cells = cells; memory = memory }
+  pub next : new.next ≡ old.next + 1
+
+-- the first frame of a function begins, with the globals in memory
+pub record IsFirst (p : Program) (k : ℕ) (input : List ℤ) (m : Machine) : Type 0 where
+  pub top : m.top ≡ record { function = k; block = 0; index = 0; serial = 0; takes = None }
+  pub below : m.below.items ≡ []
+  pub world : world_of m.world ≡ record {
+    cells = cells_made (function_of p k).params [] 0 ++ cells_made (function_of p k).registers [] 0;
+    memory = with_locals p.structs 0 0 (function_of p k).locals (with_globals p.structs p.globals 0 p.globals no_memory);
+    input = input;
+    taken = 0;
+    output = [];
+  }
+  pub next : m.next ≡ 1
+
+-- the machine is in the first state, where there is one
+abbrev pub Starts : Program → List ℤ → Option Machine → Type 0
+Starts p input None = start p input ≡ None
+Starts p input (Some m) = (start p input ≡ Some (state_of p m)) × IsSound p m × (m.next ≡ 1)

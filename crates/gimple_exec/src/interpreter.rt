@@ -1,0 +1,113 @@
+//! Runs of programs.
+
+ghost use Rattle.std.specs.Prelude.{◌≡◌, ◌<◌, ◌≤◌, ◌+◌, ◌^◌, length, IfOk};
+ghost use Rattle.std.specs.List.{All};
+ghost use Rattle.gimple_core.specs.Run.{Run, runs};
+ghost use Rattle.gimple_exec.specs.Machines.{state_of, IsSound, IsLimited, IsFirst, Starts};
+
+use crate::entry;
+use crate::machine::{Machine, Reach, Stand, function_at, is_bodiless, named_place};
+use crate::memory::Memory;
+use crate::world::World;
+use gimple_core::{Checked, Listed, OutOfMemory, Outcome, Program, Text, TrapKind};
+use std::alloc::Global as Heap;
+
+/// The machine in which the first frame of a function begins.
+fn first_machine(
+    alloc: Heap,
+    program: &Program,
+    k: usize,
+    input: &[i64],
+) -> Result<Machine, OutOfMemory>
+    requires limits { IsLimited program.now }
+    requires within { k < length program.now.functions }
+    ensures { IfOk result (λ m. IsFirst program.now k input.now m) }
+{
+    let function = function_at(program, k);
+    let mut memory = Memory::new(alloc);
+    memory.add_globals(alloc, program, program.globals.as_slice())?;
+    memory.add_locals(alloc, program, function.locals.as_slice(), 0)?;
+    let cells = entry::registers(alloc, function, &[])?;
+    let input = Listed::from_vec(Vec::from_slice(alloc, input)?);
+    Ok(Machine {
+        top: Stand {
+            function: k,
+            block: 0,
+            index: 0,
+            serial: 0,
+            takes: None,
+        },
+        below: Vec::new(alloc),
+        world: World {
+            cells,
+            memory,
+            input,
+            taken: 0,
+            output: Text::new(alloc),
+        },
+        next: 1,
+    })
+}
+
+/// The machine in which `main` begins.
+fn start(alloc: Heap, program: &Program, input: &[i64]) -> Result<Option<Machine>, OutOfMemory>
+    requires { IsLimited program.now }
+    ensures { IfOk result (λ o. Starts program.now input.now o) }
+{
+    let name = Text::from_bytes(alloc, b"main")?;
+    let Some(k) = named_place(program, &name) else {
+        return Ok(None);
+    };
+    if is_bodiless(program, k) {
+        return Ok(None);
+    }
+    let machine = first_machine(alloc, program, k, input)?;
+    Ok(Some(machine))
+}
+
+/// The run from a machine's state with some transfers, and then up to the one that is too many.
+fn go_on(
+    mut machine: Machine,
+    alloc: Heap,
+    program: &Program,
+    turns: u64,
+) -> Result<Outcome, OutOfMemory>
+    requires sound { IsSound program.now machine }
+    requires limits { IsLimited program.now }
+    requires serials { machine.next + turns ≤ 2 ^ 64 }
+    ensures { IfOk result (λ o. o ≡ runs program.now turns (state_of program.now machine)) }
+{
+    for _turn in 0..turns {
+        match machine.walk(alloc, program)? {
+            Reach::Moves => {}
+            Reach::Stops(status) => return Ok(Outcome::Ended(machine.into_output(), status)),
+            Reach::Traps(kind) => return Ok(Outcome::Trapped(machine.into_output(), kind)),
+            Reach::Spent => unreachable!(),
+        }
+    }
+    match machine.walk(alloc, program)? {
+        Reach::Traps(kind) => Ok(Outcome::Trapped(machine.into_output(), kind)),
+        Reach::Moves | Reach::Spent | Reach::Stops(_) => {
+            Ok(Outcome::Going(machine.into_output()))
+        }
+    }
+}
+
+/// What a checked program has come to on these input numbers after at most `turns` transfers: taken jumps, call entries and
+/// returns. It answers want of memory alone.
+pub fn run(
+    alloc: Heap,
+    program: &Checked,
+    input: &[i64],
+    turns: u64,
+) -> Result<Outcome, OutOfMemory>
+    requires globals { length program.now.program.globals < 2 ^ 32 }
+    requires locals { All (λ f. length f.locals < 2 ^ 32) program.now.program.functions }
+    ensures { IfOk result (λ o. o ≡ Run program.now.program input.now turns) }
+{
+    let program = program.program();
+    match start(alloc, program, input)? {
+        Some(machine) => go_on(machine, alloc, program, turns),
+        None => Ok(Outcome::Trapped(Text::new(alloc), TrapKind::Abort)),
+    }
+}

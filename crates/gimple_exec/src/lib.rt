@@ -1,0 +1,12 @@
+//! An interpreter of programs: what a program comes to on an input.
+#![tactic(auto)]
+
+mod cells;
+mod entry;
+mod interpreter;
+mod machine;
+mod memory;
+mod values;
+mod world;
+
+pub use interpreter::run;

@@ -1,0 +1,426 @@
+//! The machine of a run, and its steps.
+
+ghost use Rattle.std.specs.Prelude.{◌≡◌, ◌<◌, ◌≤◌, ◌^◌, ℕ, ◌==◌, length, [], ◌++◌, ◌↔◌, IsTrue, IfOk, OnOk, find};
+ghost use Rattle.std.specs.Option.{option_copied};
+ghost use Rattle.gimple_core.specs.Names.{same_name};
+ghost use Rattle.gimple_core.specs.Operators.{cmp_of};
+ghost use Rattle.gimple_core.specs.Run.{status_of, given, case_for};
+ghost use Rattle.gimple_exec.specs.Places.{IsPlace};
+ghost use Rattle.gimple_exec.specs.Machines.{function_of, block_of};
+
+use crate::cells::Cells;
+use crate::world::World;
+use crate::{entry, values};
+use gimple_core::{
+    Block, Case, Cases, Cmp, End, Exact, Function, Operand, OutOfMemory, Program, Scalar, Stmt,
+    Text, TrapKind, Value, eval_cmp, same_name,
+};
+use std::alloc::Global as Heap;
+use std::mem;
+
+/// Where a call that has not returned stands, by numbers of the program's functions, blocks and statements.
+#[derive(Drop)]
+pub struct Stand {
+    pub function: usize,
+    pub block: usize,
+    pub index: usize,
+    pub serial: u64,
+    pub takes: Option<Text>,
+}
+
+/// A call that waits for another one.
+#[derive(Drop)]
+pub struct Waiting {
+    pub stand: Stand,
+    pub cells: Cells,
+}
+
+/// The state of a run. The next serial may be 2^64, which no frame has.
+#[derive(Drop)]
+pub struct Machine {
+    pub top: Stand,
+    pub below: Vec<Waiting>,
+    pub world: World,
+    pub next: u128,
+}
+
+/// How the statements up to a transfer end: with the transfer, with a call that no serial is left for, with main's last
+/// return, or with a trap.
+#[derive(Debug, Drop)]
+pub enum Reach {
+    Moves,
+    Spent,
+    Stops(i32),
+    Traps(TrapKind),
+}
+
+/// What a step comes to: the next statement, or the end of the statements up to a transfer.
+#[derive(Debug, Drop)]
+pub enum Step {
+    Goes,
+    Reaches(Reach),
+}
+
+/// A function of a program.
+pub fn function_at(program: &Program, k: usize) -> &Function
+    requires { k < length program.now.functions }
+    ensures { result.now ≡ function_of program.now k }
+{
+    &program.functions.as_slice()[k]
+}
+
+/// A block of a program.
+fn block_at(program: &Program, function: usize, block: usize) -> &Block
+    requires function { function < length program.now.functions }
+    requires block { block < length (function_of program.now function).blocks }
+    ensures { result.now ≡ block_of (function_of program.now function) block }
+{
+    &function_at(program, function).blocks.as_slice()[block]
+}
+
+/// The first function of a name.
+fn function_place(functions: &[Function], name: &Text) -> Option<usize>
+    ensures { IsPlace (λ f. same_name f.name name.now) functions.now result }
+{
+    for k in 0..functions.len() {
+        if same_name(&functions[k].name, name) {
+            return Some(k);
+        }
+    }
+    None
+}
+
+/// The function of a name in a program.
+pub fn named_place(program: &Program, name: &Text) -> Option<usize>
+    ensures { IsPlace (λ f. same_name f.name name.now) program.now.functions result }
+{
+    function_place(program.functions.as_slice(), name)
+}
+
+/// Whether a function has no blocks.
+pub fn is_bodiless(program: &Program, k: usize) -> bool
+    requires { k < length program.now.functions }
+    ensures { IsTrue result ↔ ((function_of program.now k).blocks ≡ []) }
+{
+    function_at(program, k).blocks.is_empty()
+}
+
+/// The first block of a label.
+fn block_place(blocks: &[Block], label: u64) -> Option<usize>
+    ensures { IsPlace (λ b. b.label == label) blocks.now result }
+{
+    for k in 0..blocks.len() {
+        if blocks[k].label == label {
+            return Some(k);
+        }
+    }
+    None
+}
+
+impl Machine {
+    ghost use Rattle.gimple_core.specs.Run.{jump, returned, call, cells_made, values_of, value_of, any_number, finish, perform, step, with_locals, walk};
+    ghost use Rattle.gimple_core.specs.State.{scope_of};
+    ghost use Rattle.gimple_exec.specs.Machines.{state_of, control_of, IsSound, IsLimited, Leads, Arrives, Begins};
+
+    fn jump(&mut self, program: &Program, label: u64) -> Reach
+        requires { IsSound program.now self.old }
+        ensures { Arrives program.now self.old.next result (jump (state_of program.now self.old) label) self.new }
+    {
+        let function = &program.functions.as_slice()[self.top.function];
+        match block_place(function.blocks.as_slice(), label) {
+            Some(k) => {
+                self.top.block = k;
+                self.top.index = 0;
+                Reach::Moves
+            }
+            None => Reach::Traps(TrapKind::Abort),
+        }
+    }
+
+    fn leave(&mut self, program: &Program, value: Option<Value>) -> Reach
+        requires { IsSound program.now self.old }
+        ensures { Arrives program.now self.old.next result (returned (state_of program.now self.old) value (state_of program.now self.old).below) self.new }
+    {
+        match self.below.pop() {
+            None => Reach::Stops(status(value)),
+            Some(waiting) => {
+                let Waiting { stand, mut cells } = waiting;
+                give(&mut cells, &self.top.takes, value);
+                self.world.memory.leave(self.top.serial);
+                self.world.cells = cells;
+                self.top = stand;
+                Reach::Moves
+            }
+        }
+    }
+
+    /// A call.
+    fn enter(
+        &mut self,
+        alloc: Heap,
+        program: &Program,
+        to: &Option<Text>,
+        callee: &Text,
+        operands: &[Operand],
+    ) -> Result<Reach, OutOfMemory>
+        requires sound { IsSound program.now self.old }
+        requires limits { IsLimited program.now }
+        ensures { IfOk result (λ reach. Arrives program.now self.old.next reach (call program.now (record { to = to.now; callee = callee.now; arguments = operands.now }) (state_of program.now self.old)) self.new) }
+    {
+        let Some(k) = named_place(program, callee) else {
+            return Ok(Reach::Traps(TrapKind::Abort));
+        };
+        if is_bodiless(program, k) {
+            return Ok(Reach::Traps(TrapKind::Abort));
+        }
+        if self.next > u128::from(u64::MAX) {
+            return Ok(Reach::Spent);
+        }
+        let cells = self.cells_for(alloc, program, k, operands)?;
+        let takes = to.copy()?;
+        self.begin(alloc, program, k, takes, cells)?;
+        Ok(Reach::Moves)
+    }
+
+    /// The registers of a call that begins.
+    fn cells_for(
+        &self,
+        alloc: Heap,
+        program: &Program,
+        k: usize,
+        operands: &[Operand],
+    ) -> Result<Cells, OutOfMemory>
+        requires sound { IsSound program.now self.now }
+        requires within { k < length program.now.functions }
+        requires limits { IsLimited program.now }
+        ensures { IfOk result (λ cells. cells ≡ cells_made (function_of program.now k).params (values_of program.now.globals (scope_of (control_of program.now self.now.top)) self.now.world.cells operands.now) 0 ++ cells_made (function_of program.now k).registers [] 0) }
+    {
+        let caller = function_at(program, self.top.function);
+        let values = entry::arguments(
+            alloc,
+            program.globals.as_slice(),
+            caller.locals.as_slice(),
+            self.top.serial,
+            &self.world.cells,
+            operands,
+        )?;
+        entry::registers(alloc, function_at(program, k), values.as_slice())
+    }
+
+    /// Begins a frame, with its locals.
+    fn begin(
+        &mut self,
+        alloc: Heap,
+        program: &Program,
+        function: usize,
+        takes: Option<Text>,
+        cells: Cells,
+    ) -> Result<(), OutOfMemory>
+        requires room { self.old.next < 2 ^ 64 }
+        requires limits { IsLimited program.now }
+        requires within { function < length program.now.functions }
+        ensures { OnOk result (Begins self.old function takes cells (with_locals program.now.structs self.old.next 0 (function_of program.now function).locals (self.old.world.memory)) self.new) }
+    {
+        let serial = self.next as u64;
+        let locals = function_at(program, function).locals.as_slice();
+        self.world
+            .memory
+            .add_locals(alloc, program, locals, serial)?;
+        let stand = Stand {
+            function,
+            block: 0,
+            index: 0,
+            serial,
+            takes,
+        };
+        let stand = mem::replace(&mut self.top, stand);
+        let cells = mem::replace(&mut self.world.cells, cells);
+        self.below.push(Waiting { stand, cells })?;
+        self.next += 1;
+        Ok(())
+    }
+
+    /// The end of a block.
+    fn finish(&mut self, program: &Program, end: &End) -> Reach
+        requires sound { IsSound program.now self.old }
+        requires limits { IsLimited program.now }
+        ensures { Arrives program.now self.old.next result (finish program.now.globals end.now (state_of program.now self.old)) self.new }
+    {
+        match end {
+            End::Goto(label) => self.jump(program, *label),
+            End::If {
+                left,
+                cmp,
+                right,
+                yes,
+                no,
+            } => {
+                let left = self.value(program, left);
+                let right = self.value(program, right);
+                if values::compare(left, *cmp, right) {
+                    self.jump(program, *yes)
+                } else {
+                    self.jump(program, *no)
+                }
+            }
+            End::Switch { on, cases, other } => {
+                let label = self.chosen(program, on, cases, *other);
+                self.jump(program, label)
+            }
+            End::Return(None) => self.leave(program, None),
+            End::Return(Some(operand)) => {
+                let value = self.value(program, operand);
+                self.leave(program, Some(value))
+            }
+        }
+    }
+
+    /// The label that a switch leads to.
+    fn chosen(&self, program: &Program, on: &Operand, cases: &Cases, other: u64) -> u64
+        requires sound { IsSound program.now self.now }
+        requires limits { IsLimited program.now }
+        ensures { result ≡ case_for (any_number (value_of program.now.globals (scope_of (control_of program.now self.now.top)) self.now.world.cells on.now)) cases.now other }
+    {
+        target(
+            values::any(self.value(program, on)),
+            cases.as_slice(),
+            other,
+        )
+    }
+
+    /// One statement or end.
+    pub fn step(&mut self, alloc: Heap, program: &Program) -> Result<Step, OutOfMemory>
+        requires sound { IsSound program.now self.old }
+        requires limits { IsLimited program.now }
+        ensures { IfOk result (λ next. Leads program.now self.old.next next (step program.now (state_of program.now self.old)) self.new) }
+    {
+        let block = block_at(program, self.top.function, self.top.block);
+        let _count = block.body.len();
+        match block.body.get(self.top.index) {
+            None => Ok(Step::Reaches(self.finish(program, &block.end))),
+            Some(statement) => {
+                self.top.index += 1;
+                self.perform(alloc, program, statement)
+            }
+        }
+    }
+
+    /// One statement.
+    fn perform(
+        &mut self,
+        alloc: Heap,
+        program: &Program,
+        statement: &Stmt,
+    ) -> Result<Step, OutOfMemory>
+        requires sound { IsSound program.now self.old }
+        requires limits { IsLimited program.now }
+        ensures { IfOk result (λ step. Leads program.now self.old.next step (perform program.now statement.now (state_of program.now self.old)) self.new) }
+    {
+        if let Stmt::Call {
+            to,
+            callee,
+            arguments,
+        } = statement
+        {
+            let reach = self.enter(alloc, program, to, callee, arguments.as_slice())?;
+            return Ok(Step::Reaches(reach));
+        }
+        let function = function_at(program, self.top.function);
+        let trap = self.world.act(
+            alloc,
+            program.globals.as_slice(),
+            function.locals.as_slice(),
+            self.top.serial,
+            statement,
+        )?;
+        match trap {
+            Some(kind) => Ok(Step::Reaches(Reach::Traps(kind))),
+            None => Ok(Step::Goes),
+        }
+    }
+
+    /// The value of an operand in the running frame.
+    fn value(&self, program: &Program, operand: &Operand) -> Value
+        requires sound { IsSound program.now self.now }
+        requires limits { IsLimited program.now }
+        ensures { result ≡ value_of program.now.globals (scope_of (control_of program.now self.now.top)) self.now.world.cells operand.now }
+    {
+        let function = function_at(program, self.top.function);
+        values::operand(
+            program.globals.as_slice(),
+            function.locals.as_slice(),
+            self.top.serial,
+            &self.world.cells,
+            operand,
+        )
+    }
+
+    /// What the run has printed.
+    pub fn into_output(self) -> Text
+        ensures { result ≡ self.world.output }
+    {
+        let Machine {
+            top: _,
+            below: _,
+            world,
+            next: _,
+        } = self;
+        let World {
+            cells: _,
+            memory: _,
+            input: _,
+            taken: _,
+            output,
+        } = world;
+        output
+    }
+
+    /// The statements up to the next transfer.
+    pub fn walk(&mut self, alloc: Heap, program: &Program) -> Result<Reach, OutOfMemory>
+        requires sound { IsSound program.now self.old }
+        requires limits { IsLimited program.now }
+        ensures { IfOk result (λ reach. Arrives program.now self.old.next reach (walk program.now (state_of program.now self.old).top.rest (state_of program.now self.old)) self.new) }
+    {
+        loop {
+            match self.step(alloc, program)? {
+                Step::Goes => {}
+                Step::Reaches(reach) => return Ok(reach),
+            }
+        }
+    }
+}
+
+fn case_at(on: i128, cases: &[Case]) -> Option<&Case>
+    ensures { option_copied result ≡ find (λ c. cmp_of Cmp.Eq on c.value) cases.now }
+{
+    cases.iter().find(|c| eval_cmp(Cmp::Eq, on, c.value))
+}
+
+/// The label of the first case with this value.
+fn target(on: i128, cases: &[Case], other: u64) -> u64
+    ensures { result ≡ case_for on cases.now other }
+{
+    match case_at(on, cases) {
+        Some(case) => case.target,
+        None => other,
+    }
+}
+
+/// The status that main's last return gives.
+fn status(value: Option<Value>) -> i32
+    ensures { result ≡ status_of value }
+{
+    match value {
+        Some(value) => values::number_of_value(Scalar::I32, value) as i32,
+        None => 0,
+    }
+}
+
+/// A result put into the register that takes it.
+fn give(cells: &mut Cells, to: &Option<Text>, value: Option<Value>)
+    ensures { cells.new ≡ given cells.old to.now value }
+{
+    if let (Some(to), Some(value)) = (to, value) {
+        cells.assign(to, value);
+    }
+}

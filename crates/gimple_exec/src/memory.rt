@@ -1,0 +1,288 @@
+//! Memory made of typed slots.
+
+ghost use Rattle.std.specs.Prelude.{◌≡◌, ◌<◌, ◌^◌, ◌++◌, length, map, find, filter, slice_get, unwrap_or, IfOk, OnOk};
+ghost use Rattle.std.specs.List.{All};
+ghost use Rattle.std.specs.Option.{option_copied};
+ghost use Rattle.gimple_core.specs.State.{zero_of};
+ghost use Rattle.gimple_core.specs.Memory.{same_object, is_slot, found_at, found_offset, found_extent, put_slot, is_elsewhere};
+ghost use Rattle.gimple_core.specs.Run.{filled, item_value};
+
+use crate::values::{self, is_same_object, is_same_scalar};
+use gimple_core::{
+    Decl, Extent, FoundSlot, Layout, LayoutSlot, MemorySlot, Object, Operand, OutOfMemory, Program,
+    Scalar, TrapKind, Value, layout_of,
+};
+use std::alloc::Global as Heap;
+use std::marker::Model;
+
+/// Whether a slot is that of an object with an offset and a scalar.
+fn is_at(slot: MemorySlot, object: Object, offset: u64, scalar: Scalar) -> bool
+    ensures { result ≡ is_slot object offset scalar slot }
+{
+    is_same_object(slot.object, object)
+        && slot.offset == offset
+        && is_same_scalar(slot.scalar, scalar)
+}
+
+fn slot_at(slots: &[MemorySlot], object: Object, offset: u64, scalar: Scalar) -> Option<&MemorySlot>
+    ensures { option_copied result ≡ find (is_slot object offset scalar) slots.now }
+{
+    slots.iter().find(|s| is_at(**s, object, offset, scalar))
+}
+
+fn extent_of(living: &[Extent], object: Object) -> Option<&Extent>
+    ensures { option_copied result ≡ find (λ x. same_object x.object object) living.now }
+{
+    living.iter().find(|x| is_same_object(x.object, object))
+}
+
+/// An access in an object that lives.
+fn found_in(
+    slots: &[MemorySlot],
+    object: Object,
+    offset: i64,
+    scalar: Scalar,
+    extent: Extent,
+) -> Result<FoundSlot, TrapKind>
+    ensures { result ≡ found_offset slots.now object offset scalar extent }
+{
+    if offset < 0 {
+        return Err(TrapKind::Bounds);
+    }
+    let at = offset as u64;
+    if at >= extent.size {
+        return Err(TrapKind::Bounds);
+    }
+    match slot_at(slots, object, at, scalar) {
+        Some(slot) => Ok(FoundSlot {
+            object,
+            offset: at,
+            value: slot.value,
+            constant: extent.constant,
+        }),
+        None => Err(TrapKind::BadSlot),
+    }
+}
+
+/// An access of a scalar through a pointer.
+#[tactic(auto, unfolding(gimple_core::specs::Memory::found_at))]
+fn found_by(
+    living: &[Extent],
+    slots: &[MemorySlot],
+    pointer: Value,
+    scalar: Scalar,
+) -> Result<FoundSlot, TrapKind>
+    ensures { result ≡ found_at (record { living = living.now; slots = slots.now }) pointer scalar }
+{
+    match pointer {
+        Value::At { object, offset } => match extent_of(living, object) {
+            Some(extent) => found_in(slots, object, offset, scalar, *extent),
+            None => Err(TrapKind::Dangling),
+        },
+        _ => Err(TrapKind::NullAccess),
+    }
+}
+
+/// Puts a value into a slot.
+fn put(slots: &mut [MemorySlot], object: Object, offset: u64, scalar: Scalar, value: Value)
+    ensures { slots.new ≡ put_slot slots.old object offset scalar value }
+{
+    for at in 0..slots.len() {
+        let slot = slots[at];
+        if is_at(slot, object, offset, scalar) {
+            slots[at] = MemorySlot { value, ..slot };
+            return;
+        }
+    }
+}
+
+/// Whether an object is none of a frame's locals.
+fn elsewhere(serial: u64, object: Object) -> bool
+    ensures { result ≡ is_elsewhere serial object }
+{
+    match object {
+        Object::Global(_) => true,
+        Object::Local {
+            serial: other,
+            number: _,
+        } => other != serial,
+    }
+}
+
+fn leave_slots(slots: &mut Vec<MemorySlot>, serial: u64)
+    ensures { slots.new.items ≡ filter (λ s. is_elsewhere serial s.object) slots.old.items }
+{
+    slots.retain(|s| elsewhere(serial, s.object));
+}
+
+fn leave_extents(extents: &mut Vec<Extent>, serial: u64)
+    ensures { extents.new.items ≡ filter (λ x. is_elsewhere serial x.object) extents.old.items }
+{
+    extents.retain(|x| elsewhere(serial, x.object));
+}
+
+/// The value at a place, or zero or null.
+pub fn value_at(values: &[Value], k: usize, scalar: Scalar) -> Value
+    ensures { result ≡ unwrap_or (slice_get values.now k) (zero_of scalar) }
+{
+    match values.get(k) {
+        Some(value) => *value,
+        None => values::zero(scalar),
+    }
+}
+
+/// Puts an object's slots behind the others, the first ones with these values.
+fn fill(
+    slots: &mut Vec<MemorySlot>,
+    object: Object,
+    layout: &[LayoutSlot],
+    values: &[Value],
+) -> Result<(), OutOfMemory>
+    ensures { OnOk result (slots.new.items ≡ slots.old.items ++ filled object layout.now values.now) }
+{
+    for k in 0..layout.len() {
+        let slot = layout[k];
+        slots.push(MemorySlot {
+            object,
+            offset: slot.offset,
+            scalar: slot.scalar,
+            value: value_at(values, k, slot.scalar),
+        })?;
+    }
+    Ok(())
+}
+
+/// The values of a global's items.
+fn item_values(
+    alloc: Heap,
+    globals: &[gimple_core::Global],
+    items: &[Operand],
+) -> Result<Vec<Value>, OutOfMemory>
+    requires { length globals.now < 2 ^ 32 }
+    ensures { IfOk result (λ vs. vs.items ≡ map (item_value globals.now) items.now) }
+{
+    items
+        .iter()
+        .map(|o| values::item(globals, o))
+        .collect(alloc)
+}
+
+/// The objects that live, and what their slots hold.
+#[derive(Drop)]
+pub struct Memory {
+    living: Vec<Extent>,
+    slots: Vec<MemorySlot>,
+}
+
+impl Model for Memory {
+    ghost use Rattle.gimple_core.specs.Memory.{Memory};
+
+    ghost Value = { Memory };
+
+    ghost view = { λ m. record { living = m.living.items; slots = m.slots.items } };
+}
+
+impl Memory {
+    ghost use Rattle.gimple_core.specs.Layout.{HasLayout};
+    ghost use Rattle.gimple_core.specs.Memory.{without_frame};
+    ghost use Rattle.gimple_core.specs.Run.{no_memory, with_object, with_locals, with_globals};
+
+    /// No objects.
+    pub fn new(alloc: Heap) -> Memory
+        ensures { result ≡ no_memory }
+    {
+        Memory {
+            living: Vec::new(alloc),
+            slots: Vec::new(alloc),
+        }
+    }
+
+    /// An access of a scalar through a pointer.
+    pub fn found(&self, pointer: Value, scalar: Scalar) -> Result<FoundSlot, TrapKind>
+        ensures { result ≡ found_at self.now pointer scalar }
+    {
+        found_by(
+            self.living.as_slice(),
+            self.slots.as_slice(),
+            pointer,
+            scalar,
+        )
+    }
+
+    /// Puts a value into a slot.
+    pub fn put(&mut self, object: Object, offset: u64, scalar: Scalar, value: Value)
+        ensures { self.new ≡ record self.old { slots = put_slot self.old.slots object offset scalar value } }
+    {
+        put(&mut self.slots, object, offset, scalar, value);
+    }
+
+    /// Takes out the locals of a frame that has returned.
+    #[tactic(auto, unfolding(gimple_core::specs::Memory::without_frame))]
+    pub fn leave(&mut self, serial: u64)
+        ensures { self.new ≡ without_frame serial self.old }
+    {
+        leave_extents(&mut self.living, serial);
+        leave_slots(&mut self.slots, serial);
+    }
+
+    fn add_object(
+        &mut self,
+        object: Object,
+        layout: &Layout,
+        constant: bool,
+        values: &[Value],
+    ) -> Result<(), OutOfMemory>
+        ensures { OnOk result (self.new ≡ with_object self.old object layout.now constant values.now) }
+    {
+        self.living.push(Extent {
+            object,
+            size: layout.size,
+            constant,
+        })?;
+        fill(&mut self.slots, object, layout.slots.as_slice(), values)
+    }
+
+    /// Adds the locals of a frame.
+    pub fn add_locals(
+        &mut self,
+        alloc: Heap,
+        program: &Program,
+        locals: &[Decl],
+        serial: u64,
+    ) -> Result<(), OutOfMemory>
+        requires few { length locals.now < 2 ^ 32 }
+        requires layouts { All (λ d. HasLayout program.now.structs d) locals.now }
+        ensures { OnOk result (self.new ≡ with_locals program.now.structs serial 0 locals.now self.old) }
+    {
+        for k in 0..locals.len() {
+            let layout = layout_of(alloc, program, &locals[k])?;
+            let object = Object::Local {
+                serial,
+                number: k as u32,
+            };
+            self.add_object(object, &layout, false, &[])?;
+        }
+        Ok(())
+    }
+
+    /// Adds the globals of a program.
+    pub fn add_globals(
+        &mut self,
+        alloc: Heap,
+        program: &Program,
+        globals: &[gimple_core::Global],
+    ) -> Result<(), OutOfMemory>
+        requires few { length globals.now < 2 ^ 32 }
+        requires layouts { All (λ g. HasLayout program.now.structs g.decl) globals.now }
+        ensures { OnOk result (self.new ≡ with_globals program.now.structs globals.now 0 globals.now self.old) }
+    {
+        for k in 0..globals.len() {
+            let global = &globals[k];
+            let layout = layout_of(alloc, program, &global.decl)?;
+            let values = item_values(alloc, globals, global.items.as_slice())?;
+            let object = Object::Global(k as u32);
+            self.add_object(object, &layout, global.constant, values.as_slice())?;
+        }
+        Ok(())
+    }
+}

@@ -1,0 +1,305 @@
+//! Values, and what operands, places and operators make of them.
+
+ghost use Rattle.std.specs.Prelude.{◌≡◌, ◌<◌, ◌^◌, ◌++◌, ◌+ℤ◌, [], length, IsTrue, find, position};
+ghost use Rattle.std.specs.Option.{option_copied};
+ghost use Rattle.gimple_core.specs.Names.{same_name};
+ghost use Rattle.gimple_core.specs.Operators.{in_scalar, wrapped, IsWord, IsRightSide};
+ghost use Rattle.gimple_core.specs.Memory.{same_object, same_scalar, number_of, moved_by, is_slot};
+ghost use Rattle.gimple_core.specs.State.{number_in, offset_in, zero_of};
+ghost use Rattle.gimple_core.specs.Run.{item_value, address_of, address_of_global, value_of, base_value, place_value, any_number, right_number, arith_of, compares, converted, same_pointer, pointers_compare, one_if};
+
+use crate::cells::Cells;
+use gimple_core::{
+    Base, Cmp, Decl, Object, Op, Operand, Place, Scalar, Text, TrapKind, Value, eval_cmp, eval_op,
+    fits, same_name, wrap,
+};
+
+/// Whether two objects are the same.
+pub fn is_same_object(left: Object, right: Object) -> bool
+    ensures { result ≡ same_object left right }
+{
+    match (left, right) {
+        (Object::Global(k), Object::Global(j)) => k == j,
+        (
+            Object::Local {
+                serial: s,
+                number: k,
+            },
+            Object::Local {
+                serial: t,
+                number: j,
+            },
+        ) => { s == t && k == j }
+        _ => false,
+    }
+}
+
+fn number(scalar: Scalar) -> u8
+    ensures { result ≡ number_of scalar }
+{
+    match scalar {
+        Scalar::I8 => 0,
+        Scalar::I16 => 1,
+        Scalar::I32 => 2,
+        Scalar::I64 => 3,
+        Scalar::U8 => 4,
+        Scalar::U16 => 5,
+        Scalar::U32 => 6,
+        Scalar::U64 => 7,
+        Scalar::Ptr => 8,
+    }
+}
+
+/// Whether two scalars are the same.
+pub fn is_same_scalar(left: Scalar, right: Scalar) -> bool
+    ensures { result ≡ same_scalar left right }
+{
+    number(left) == number(right)
+}
+
+fn moved(offset: i64, by: i128) -> i64
+    requires { IsWord by }
+    ensures { result ≡ wrapped Scalar.I64 (offset +ℤ by) }
+{
+    wrap(Scalar::I64, i128::from(offset) + by) as i64
+}
+
+/// A pointer moved by some bytes.
+#[tactic(auto, unfolding(gimple_core::specs::Memory::moved_by))]
+pub fn move_by(value: Value, by: i128) -> Value
+    requires { IsWord by }
+    ensures { result ≡ moved_by value by }
+{
+    match value {
+        Value::Int(z) => Value::Int(z),
+        Value::Null => Value::Null,
+        Value::At { object, offset } => Value::At {
+            object,
+            offset: moved(offset, by),
+        },
+    }
+}
+
+/// A value as a number of a scalar.
+#[tactic(auto, unfolding(gimple_core::specs::State::number_in))]
+pub fn number_of_value(scalar: Scalar, value: Value) -> i128
+    ensures value { result ≡ number_in scalar value }
+    ensures fits { IsTrue (in_scalar scalar result) }
+{
+    match value {
+        Value::Int(z) if fits(scalar, z) => z,
+        _ => 0,
+    }
+}
+
+/// A value as a number of any integer scalar.
+pub fn any(value: Value) -> i128
+    ensures value { result ≡ any_number value }
+    ensures word { IsWord result }
+{
+    match value {
+        Value::Int(z) if 0 <= z => number_of_value(Scalar::U64, value),
+        Value::Int(_) => number_of_value(Scalar::I64, value),
+        _ => 0,
+    }
+}
+
+/// An offset as it is read.
+pub fn offset(value: i128) -> i128
+    ensures value { result ≡ offset_in value }
+    ensures word { IsWord result }
+{
+    number_of_value(Scalar::I64, Value::Int(value))
+}
+
+fn global_place(globals: &[gimple_core::Global], name: &Text) -> Option<usize>
+    ensures { result ≡ position (λ g. same_name g.decl.name name.now) globals.now }
+{
+    globals.iter().position(|g| same_name(&g.decl.name, name))
+}
+
+fn local_place(locals: &[Decl], name: &Text) -> Option<usize>
+    ensures { result ≡ position (λ d. same_name d.name name.now) locals.now }
+{
+    locals.iter().position(|d| same_name(&d.name, name))
+}
+
+/// The address of a global.
+#[tactic(auto, unfolding(gimple_core::specs::Run::address_of_global))]
+pub fn global_address(globals: &[gimple_core::Global], name: &Text) -> Value
+    requires { length globals.now < 2 ^ 32 }
+    ensures { result ≡ address_of_global globals.now name.now }
+{
+    match global_place(globals, name) {
+        Some(k) => Value::At {
+            object: Object::Global(k as u32),
+            offset: 0,
+        },
+        None => Value::Null,
+    }
+}
+
+fn right_side(op: Op, scalar: Scalar, value: Value) -> i128
+    ensures value { result ≡ right_number op scalar value }
+    ensures fits { IsRightSide op scalar result }
+{
+    match op {
+        Op::Shl | Op::Shr => any(value),
+        _ => number_of_value(scalar, value),
+    }
+}
+
+/// An operator with a result of a scalar.
+#[tactic(auto, unfolding(gimple_core::specs::Run::arith_of))]
+pub fn arith(scalar: Scalar, left: Value, op: Op, right: Value) -> Result<Value, TrapKind>
+    ensures { result ≡ arith_of scalar left op right }
+{
+    if let Scalar::Ptr = scalar {
+        return Ok(move_by(left, any(right)));
+    }
+    let found = eval_op(
+        op,
+        scalar,
+        number_of_value(scalar, left),
+        right_side(op, scalar, right),
+    );
+    match found {
+        Ok(z) => Ok(Value::Int(z)),
+        Err(kind) => Err(kind),
+    }
+}
+
+fn is_same_pointer(left: Value, right: Value) -> bool
+    ensures { result ≡ same_pointer left right }
+{
+    match (left, right) {
+        (Value::Null, Value::Null) => true,
+        (
+            Value::At {
+                object: a,
+                offset: i,
+            },
+            Value::At {
+                object: b,
+                offset: j,
+            },
+        ) => { is_same_object(a, b) && i == j }
+        _ => false,
+    }
+}
+
+/// A comparison of two values.
+#[tactic(auto, unfolding(gimple_core::specs::Run::compares))]
+pub fn compare(left: Value, cmp: Cmp, right: Value) -> bool
+    ensures { result ≡ compares left cmp right }
+{
+    if let (Value::Int(a), Value::Int(b)) = (left, right) {
+        return eval_cmp(cmp, a, b);
+    }
+    match cmp {
+        Cmp::Eq => is_same_pointer(left, right),
+        Cmp::Ne => !is_same_pointer(left, right),
+        _ => false,
+    }
+}
+
+/// A value converted to a scalar.
+pub fn convert(scalar: Scalar, value: Value) -> Value
+    ensures { result ≡ converted scalar value }
+{
+    Value::Int(wrap(scalar, any(value)))
+}
+
+/// The value of an item of a global; a register is none.
+pub fn item(globals: &[gimple_core::Global], from: &Operand) -> Value
+    requires { length globals.now < 2 ^ 32 }
+    ensures { result ≡ item_value globals.now from.now }
+{
+    match from {
+        Operand::Reg(_) => Value::Null,
+        Operand::Number(z) => Value::Int(*z),
+        Operand::Null => Value::Null,
+        Operand::Address {
+            variable,
+            offset: by,
+        } => { move_by(global_address(globals, variable), offset(*by)) }
+    }
+}
+
+/// Zero or null.
+pub fn zero(scalar: Scalar) -> Value
+    ensures { result ≡ zero_of scalar }
+{
+    match scalar {
+        Scalar::Ptr => Value::Null,
+        _ => Value::Int(0),
+    }
+}
+
+/// The address of a variable that a frame sees.
+#[tactic(auto, unfolding(gimple_core::specs::Run::address_of))]
+pub fn address(globals: &[gimple_core::Global], locals: &[Decl], serial: u64, name: &Text) -> Value
+    requires globals { length globals.now < 2 ^ 32 }
+    requires locals { length locals.now < 2 ^ 32 }
+    ensures { result ≡ address_of globals.now (record { locals = locals.now; serial = serial }) name.now }
+{
+    match local_place(locals, name) {
+        Some(k) => Value::At {
+            object: Object::Local {
+                serial,
+                number: k as u32,
+            },
+            offset: 0,
+        },
+        None => global_address(globals, name),
+    }
+}
+
+/// The value of an operand.
+pub fn operand(
+    globals: &[gimple_core::Global],
+    locals: &[Decl],
+    serial: u64,
+    cells: &Cells,
+    from: &Operand,
+) -> Value
+    requires globals { length globals.now < 2 ^ 32 }
+    requires locals { length locals.now < 2 ^ 32 }
+    ensures { result ≡ value_of globals.now (record { locals = locals.now; serial = serial }) cells.now from.now }
+{
+    match from {
+        Operand::Reg(name) => cells.value(name),
+        Operand::Number(z) => Value::Int(*z),
+        Operand::Null => Value::Null,
+        Operand::Address {
+            variable,
+            offset: by,
+        } => { move_by(address(globals, locals, serial, variable), offset(*by)) }
+    }
+}
+
+/// Where a place points.
+pub fn pointer(
+    globals: &[gimple_core::Global],
+    locals: &[Decl],
+    serial: u64,
+    cells: &Cells,
+    place: &Place,
+) -> Value
+    requires globals { length globals.now < 2 ^ 32 }
+    requires locals { length locals.now < 2 ^ 32 }
+    ensures { result ≡ place_value globals.now (record { locals = locals.now; serial = serial }) cells.now place.now }
+{
+    let base = match &place.base {
+        Base::Reg(name) => cells.value(name),
+        Base::Variable(name) => address(globals, locals, serial, name),
+    };
+    move_by(base, offset(place.offset))
+}
+
+/// 1 or 0.
+pub fn truth(holds: bool) -> Value
+    ensures { result ≡ one_if holds }
+{
+    if holds { Value::Int(1) } else { Value::Int(0) }
+}
