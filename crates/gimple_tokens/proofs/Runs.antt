@@ -39,7 +39,7 @@ within_is : (n : ℕ) (o : Option (Token × Bytes)) (t : Token) (rest : Bytes) �
 within_is n None t rest h e = absurd cc
 within_is n (Some x) t rest h e = let f : x ≡ (t, rest) = cc in let g : x.1 ≡ rest = ap (λ (y : Token × Bytes). y.1) f in rw (← g) h
 
-skip_length : (c : Bool) (bs : Bytes) → length (skip c bs) ≤ length bs
+pub skip_length : (c : Bool) (bs : Bytes) → length (skip c bs) ≤ length bs
 skip_length c [] = omega arith
 skip_length true (b ∷ bs) = omega (arith, skip_length (not (b == 10)) bs)
 skip_length false (b ∷ bs) =

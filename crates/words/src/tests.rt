@@ -28,14 +28,14 @@ fn words_are_read(rt: HostRuntime) -> Result<(), Fail> {
         let fault = UsageFault { word: 0, code: 0 };
         assert!(rt; read_words(&texts(alloc, words)?) == Err(fault));
     }
-    for words in [["a.g", "-o", "b.g"], ["-", "-o", "-"]] {
-        let words = texts(alloc, &words)?;
+    for (input, output) in [("a.g", "b.g"), ("-", "-")] {
+        let words = texts(alloc, &[input, "-o", output])?;
         let Ok(options) = read_words(&words) else {
             panic!(rt; "lawful words");
         };
-        let SourceName::File(input) = options.source;
-        assert_eq!(rt; name_bytes(&words, &input), words[0].as_slice());
-        assert_eq!(rt; name_bytes(&words, &options.output), words[2].as_slice());
+        let SourceName::File(source) = options.source;
+        assert_eq!(rt; name_bytes(&words, &source), input.as_bytes());
+        assert_eq!(rt; name_bytes(&words, &options.output), output.as_bytes());
     }
     assert_eq!(rt; usage_text(0), "U00 words");
     Ok(())
