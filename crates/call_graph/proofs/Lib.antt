@@ -7,3 +7,10 @@ pub mod Filling
 pub mod Bridge
 pub mod Callees
 pub mod Keeping
+pub mod Choosing
+pub mod Ordering
+pub mod Tabling
+pub mod Testing
+pub mod Growing
+pub mod Standing
+pub mod Sofar

@@ -5,14 +5,9 @@ use Rattle.std.proofs.lemmas.List.{get_or-set_same, get_or-set_other, length-app
 use Rattle.std.proofs.lemmas.List.Elements.{Contains-append_cases, Contains-append_left, Contains-append_right, Contains-push, Contains-push_cases}
 use Rattle.std.proofs.lemmas.Bool.Decides.{eqb_tells}
 use Rattle.std.proofs.Math.ListN.{length-set}
+use Rattle.call_graph.proofs.Members.{nothing}
 use Rattle.call_graph.specs.Graph.{Leads, start, along, AreMarks}
 use Rattle.call_graph.specs.Walk.{Walk, unless_met, met, unmarked, IsWalk}
-
-pub contains_cases : (x : ℕ) (xs : List ℕ) (y : ℕ) → Contains (x ∷ xs) y → (x ≡ y) ⊎ Contains xs y
-contains_cases x xs y h = elim (Contains-append_cases (x ∷ []) xs y h) [
-  | inl one ↦ elim (Contains-push_cases [] x y one) [ inl (k, low, _) ↦ let e : ⊥ = omega (arith, low) in elim e [ ] | inr e ↦ inl e ]
-  | inr later ↦ inr later
-]
 
 pub unmarked_set : (xs : List Bool) (m : ℕ) → m < length xs → get_or xs m false ≡ false → suc (unmarked (set xs m true)) ≡ unmarked xs
 unmarked_set [] m h e = let no : ⊥ = omega (arith, h) in elim no [ ]
@@ -30,9 +25,6 @@ pub record HasMet (row : List ℕ) (w v : Walk) : Type 0 where
   pub pending_kept : (a : ℕ) → Contains w.pending a → Contains v.pending a
   pub pending_only : (a : ℕ) → Contains v.pending a → Contains w.pending a ⊎ Contains row a
   pub work : unmarked v.marks + length v.pending ≡ unmarked w.marks + length w.pending
-
-pub nothing : (a : ℕ) → Contains [] a → ⊥
-nothing a (k, low, _) = omega (arith, low)
 
 single : (m a : ℕ) → Contains (m ∷ []) a → m ≡ a
 single m a h = elim (Contains-push_cases [] m a h) [ inl none ↦ let no = nothing a none in elim no [ ] | inr e ↦ e ]

@@ -2,3 +2,4 @@ pub mod Calls
 pub mod Graph
 pub mod Walk
 pub mod Reached
+pub mod Table

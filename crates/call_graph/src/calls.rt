@@ -95,22 +95,6 @@ fn push_functions<'a>(
     Ok(())
 }
 
-/// The edges of functions with these names.
-pub fn edges_in<'a>(
-    alloc: Heap,
-    names: &FunctionNames<'a>,
-    functions: &'a [Function],
-) -> Result<Edges, OutOfMemory>
-    requires few { length functions.now < 2 ^ 32 }
-    requires names { length names.now < 2 ^ 32 }
-    requires size { sum_by size_of_function functions.now < 2 ^ 32 }
-    ensures { IfOk result (λ edges. edges ≡ function_edges names.now 0 functions.now) }
-{
-    let mut edges = Edges::new(alloc);
-    push_functions(names, functions, &mut edges)?;
-    Ok(edges)
-}
-
 /// The call statements of a program in file order, each with the number of the function that it calls.
 pub fn edges(alloc: Heap, program: &Checked) -> Result<Edges, OutOfMemory>
     requires few { length program.now.program.functions < 2 ^ 32 }
@@ -119,5 +103,7 @@ pub fn edges(alloc: Heap, program: &Checked) -> Result<Edges, OutOfMemory>
 {
     let functions = program.program().functions.as_slice();
     let names = names_of(alloc, functions)?;
-    edges_in(alloc, &names, functions)
+    let mut edges = Edges::new(alloc);
+    push_functions(&names, functions, &mut edges)?;
+    Ok(edges)
 }

@@ -1,12 +1,14 @@
-//! The call graph of a program: its edges, what `main` reaches, and programs without the rest.
+//! The call graph of a program: its edges, what `main` reaches, programs without the rest, and the strong components.
 #![tactic(auto)]
 
 mod calls;
 mod names;
+mod order;
 mod reach;
 mod rows;
 mod walk;
 
 pub use calls::edges;
-pub use gimple_core::{Edge, Edges, Marks};
+pub use gimple_core::{Edge, Edges, Marks, Numbers};
+pub use order::{Order, components, order_is_one};
 pub use reach::{drop_unreached, reached};

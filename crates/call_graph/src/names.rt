@@ -3,6 +3,7 @@
 ghost use Rattle.std.specs.Prelude.{◌≡◌, ◌<◌, ◌^◌, [], ◌∷◌, ◌++◌, false, length, map, IfOk, OnOk};
 ghost use Rattle.std.specs.List.{list_any};
 ghost use Rattle.gimple_core.specs.Names.{same_name};
+ghost use Rattle.gimple_core.specs.Run.{main_name};
 ghost use Rattle.call_graph.specs.Calls.{number_in, AreDistinct};
 
 use gimple_core::{Function, OutOfMemory};
@@ -66,4 +67,24 @@ pub fn names_of<'a>(
         names.push(function.name.as_slice())?;
     }
     Ok(names)
+}
+
+/// The number of the function `main`, or how many functions there are.
+#[tactic(auto, unfolding(crate::specs::Calls::number_in))]
+pub fn main_number(functions: &[Function]) -> usize
+    ensures { result ≡ number_in (map (λ f. f.name) functions.now) main_name }
+{
+    for number in 0..functions.len() {
+        if is_main(&functions[number]) {
+            return number;
+        }
+    }
+    functions.len()
+}
+
+#[tactic(auto, using(gimple_core::proofs::EnvLemmas::same_test))]
+fn is_main(function: &Function) -> bool
+    ensures { result ≡ same_name function.now.name main_name }
+{
+    b"main".as_slice() == function.name.as_slice()
 }

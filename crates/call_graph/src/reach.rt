@@ -6,9 +6,8 @@ ghost use Rattle.gimple_core.specs.Run.{Run};
 ghost use Rattle.gimple_core.specs.Size.{size_of_program};
 ghost use Rattle.call_graph.specs.Reached.{AreReached, marked, unless_dropped};
 
-use crate::calls::edges_in;
-use crate::names::names_of;
-use crate::rows::rows_of;
+use crate::names::main_number;
+use crate::rows::callees;
 use crate::walk::reached_in;
 use gimple_core::{Checked, Function, Listed, Marks, OutOfMemory, Program};
 use std::alloc::Global as Heap;
@@ -19,11 +18,9 @@ pub fn reached(alloc: Heap, program: &Checked) -> Result<Marks, OutOfMemory>
     requires size { size_of_program program.now.program < 2 ^ 32 }
     ensures { IfOk result (AreReached program.now.program) }
 {
-    let functions = program.program().functions.as_slice();
-    let names = names_of(alloc, functions)?;
-    let edges = edges_in(alloc, &names, functions)?;
-    let rows = rows_of(alloc, edges.as_slice(), functions.len())?;
-    let marks = reached_in(alloc, rows.as_slice(), names.number_of(b"main"))?;
+    let rows = callees(alloc, program)?;
+    let root = main_number(program.program().functions.as_slice());
+    let marks = reached_in(alloc, rows.as_slice(), root)?;
     Ok(Listed::from_vec(marks))
 }
 

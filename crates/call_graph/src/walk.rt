@@ -48,7 +48,7 @@ fn meet_one(node: u32, marks: &mut Vec<bool>, pending: &mut Vec<u32>) -> Result<
     Ok(())
 }
 
-fn all_false(alloc: Heap, count: usize) -> Result<Vec<bool>, OutOfMemory>
+pub fn all_false(alloc: Heap, count: usize) -> Result<Vec<bool>, OutOfMemory>
     ensures each { IfOk result (λ v. (a : ℕ) → slice_index_or v.items a false ≡ false) }
     ensures one_each { IfOk result (λ v. length v.items ≡ count) }
 {

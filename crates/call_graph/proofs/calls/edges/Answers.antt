@@ -1,4 +1,4 @@
-use Rattle.std.proofs.Common.{◌≡◌, List, map, IfOk, refl, sym, ◌∙◌, ap, subst}
+use Rattle.std.proofs.Common.{◌++◌, List, map, sym, ◌∙◌, ap, subst}
 use Rattle.gimple_ir.specs.declared.point.Edge.{Edge}
 use Rattle.gimple_ir.specs.declared.program.Function.{Function}
 use Rattle.gimple_ir.specs.declared.program.Program.{Program}
@@ -16,5 +16,4 @@ names_of-requires c =
 pub returns : goal.returns
 returns c =
     let fs = c.as_slice-functions.ensures ∙ ap (λ (p : Program). p.functions) c.program.ensures.same in
-    let P : List Edge → Type 0 = λ es. IfOk c.edges_in.result (λ edges. edges ≡ es) in
-    subst P (edges_are c.args.program.now.program c.as_slice-functions.result.now c.in_ok-names.names (function_edges c.in_ok-names.names 0 c.as_slice-functions.result.now) fs c.in_ok-names.ensures refl) c.edges_in.ensures
+    edges_are c.args.program.now.program c.as_slice-functions.result.now c.in_ok-names.names c.push_functions.new.edges fs c.in_ok-names.ensures (c.in_ok-push_functions.ensures ∙ ap (λ (es : List Edge). es ++ function_edges c.in_ok-names.names 0 c.as_slice-functions.result.now) c.new-edges.ensures)
