@@ -18,6 +18,7 @@ use Rattle.gimple_core.proofs.NameLemmas.{same_name_true}
 use Rattle.gimple_claims.specs.Exits.{Returns, exit_of}
 use Rattle.gimple_core.specs.Trace.{Event, Entry, At, told_by, told, main_entry, after}
 use Rattle.gimple_claims.proofs.Accesses.{no_access}
+use Rattle.gimple_claims.proofs.Lists.{found_test}
 use Rattle.gimple_claims.proofs.Comes.{Comes, begins, goes, moves, InDid, InReached, IsKept, holds}
 
 -- `Here` of the running frame, and `Waits` of one that waits for a result into this register; each speaks of the events so far
@@ -44,14 +45,6 @@ unfolding told_by
 told_call p x xs s t c e d = rw (no_access p.globals x s c e, d, e) refl
 
 -- a function that is found is found by its own name
-found_in : (test : Function → Bool) (f g : Function) (o : Option Function) → (o ≡ Some g → test g ≡ true) → (b : Bool) → test f ≡ b → (if b then Some f else o) ≡ Some g → test g ≡ true
-found_in test f g o more true t e = let same : f ≡ g = cc in subst (λ (h : Function). test h ≡ true) same t
-found_in test f g o more false t e = more e
-
-found_test : (test : Function → Bool) (fs : List Function) (g : Function) → find test fs ≡ Some g → test g ≡ true
-found_test test [] g e = cc
-found_test test (f ∷ fs) g e = found_in test f g (find test fs) (found_test test fs g) (test f) refl e
-
 pub own_name : (name : List ℕ) (fs : List Function) (g : Function) → function_named name fs ≡ Some g → function_named g.name fs ≡ Some g
 unfolding function_named
 own_name name fs g e = let same : g.name ≡ name = same_name_true g.name name (found_test (λ f. same_name f.name name) fs g e) in subst (λ n. find (λ f. same_name f.name n) fs ≡ Some g) (sym same) e

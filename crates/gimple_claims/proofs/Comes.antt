@@ -27,6 +27,13 @@ holds p input I kept _ _ (begins s e) = kept.begin s e
 holds p input I kept _ _ (goes past s t c e) = subst (InDid (I (after past (told p s)))) e (kept.keep past s (holds p input I kept past s c))
 holds p input I kept _ _ (moves past k s t c e) = subst (InDid (I (after past (told p s)))) e (kept.keep past s (holds p input I kept past s c))
 
+-- the same, where each state is known to come up
+pub holds_with : (p : Program) (input : List ℤ) (I : List Event → State → Type 0) → ((s : State) → start p input ≡ Some s → I (main_entry p s ∷ []) s) →
+    ((past : List Event) (s : State) → Comes p input past s → I past s → InDid (I (after past (told p s))) (step p s)) → (past : List Event) (s : State) → Comes p input past s → I past s
+holds_with p input I begin keep _ _ (begins s e) = begin s e
+holds_with p input I begin keep _ _ (goes past s t c e) = subst (InDid (I (after past (told p s)))) e (keep past s c (holds_with p input I begin keep past s c))
+holds_with p input I begin keep _ _ (moves past k s t c e) = subst (InDid (I (after past (told p s)))) e (keep past s c (holds_with p input I begin keep past s c))
+
 -- ---- lists of events
 
 pub each_append : (Q : List Event → Event → Type 0) (past es fs : List Event) → EachAfter Q past es → EachAfter Q (after past es) fs → EachAfter Q past (es ++ fs)

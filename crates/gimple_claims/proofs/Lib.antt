@@ -15,3 +15,5 @@ pub mod Locals
 pub mod Living
 pub mod ReadOnly
 pub mod Registers
+pub mod Checked
+pub mod Lost

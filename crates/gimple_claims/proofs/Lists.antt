@@ -1,5 +1,5 @@
 -- Lists that are filtered, changed in one place, or grown by one.
-use Rattle.std.proofs.Common.{◌≡◌, ℕ, Bool, true, false, cond, ◌&&◌, List, [], ◌∷◌, ◌++◌, map, filter, refl, sym, ◌∙◌, ap, Option, Some, None, if◌then◌else◌}
+use Rattle.std.proofs.Common.{◌≡◌, ℕ, zero, suc, slice_get, Bool, true, false, cond, ◌&&◌, List, [], ◌∷◌, ◌++◌, map, filter, refl, sym, ◌∙◌, ap, Option, Some, None, if◌then◌else◌}
 use Rattle.std.specs.List.{find, list_all}
 use Rattle.std.specs.Option.{option_or}
 use Rattle.std.proofs.lemmas.List.Folds.{find-append}
@@ -63,3 +63,48 @@ module _ {X : Type 0} where
       by : (a : Bool) → p x ≡ a → a && list_all p xs ≡ true → (list_all p xs ≡ true → list_all q xs ≡ true) → list_all q (x ∷ xs) ≡ true
       by true e f more = rw (h x e) (more f)
       by false e f more = cc
+
+  -- what a search finds passes its test
+  pub found_test : (test : X → Bool) (xs : List X) (y : X) → find test xs ≡ Some y → test y ≡ true
+  found_test test [] y e = cc
+  found_test test (x ∷ xs) y e = by (test x) refl e (found_test test xs y)
+    where
+      by : (b : Bool) → test x ≡ b → (if b then Some x else find test xs) ≡ Some y → (find test xs ≡ Some y → test y ≡ true) → test y ≡ true
+      by true t f more = let same : x ≡ y = cc in ap test (sym same) ∙ t
+      by false t f more = more f
+
+  -- what all items have, a found one has
+  pub found_has : (p test : X → Bool) (xs : List X) (y : X) → list_all p xs ≡ true → find test xs ≡ Some y → p y ≡ true
+  found_has p test [] y h e = cc
+  found_has p test (x ∷ xs) y h e = by (p x) refl (test x) h e (found_has p test xs y)
+    where
+      by : (a : Bool) → p x ≡ a → (b : Bool) → a && list_all p xs ≡ true → (if b then Some x else find test xs) ≡ Some y → (list_all p xs ≡ true → find test xs ≡ Some y → p y ≡ true) → p y ≡ true
+      by true t true h f more = let same : x ≡ y = cc in ap p (sym same) ∙ t
+      by true t false h f more = more h f
+      by false t b h f more = cc
+
+  -- a change in one place keeps what all items have
+  pub all_updated : (p test : X → Bool) (g : X → X) (xs : List X) → list_all p xs ≡ true → ((x : X) → find test xs ≡ Some x → p (g x) ≡ true) → list_all p (update_first test g xs) ≡ true
+  unfolding update_first
+  all_updated p test g [] h k = refl
+  all_updated p test g (x ∷ xs) h k = by (p x) refl (test x) refl h k (all_updated p test g xs)
+    where
+      by : (a : Bool) → p x ≡ a → (b : Bool) → test x ≡ b → a && list_all p xs ≡ true → ((y : X) → (if b then Some x else find test xs) ≡ Some y → p (g y) ≡ true) → (list_all p xs ≡ true → ((y : X) → find test xs ≡ Some y → p (g y) ≡ true) → list_all p (update_first test g xs) ≡ true) →
+          list_all p (if b then g x ∷ xs else x ∷ update_first test g xs) ≡ true
+      by true t true u h k more = rw (k x refl) h
+      by true t false u h k more = rw t (more h k)
+      by false t b u h k more = cc
+
+  all_here : (p : X → Bool) (x y : X) (xs : List X) → (a : Bool) → p x ≡ a → a && list_all p xs ≡ true → Some x ≡ Some y → p y ≡ true
+  all_here p x y xs true t h e = let same : x ≡ y = cc in ap p (sym same) ∙ t
+  all_here p x y xs false t h e = cc
+
+  pub all_later : (p : X → Bool) (x : X) (xs : List X) → (a : Bool) → a && list_all p xs ≡ true → list_all p xs ≡ true
+  all_later p x xs true h = h
+  all_later p x xs false h = cc
+
+  -- what all items have, the one at a place has
+  pub all_at : (p : X → Bool) (xs : List X) (k : ℕ) (y : X) → list_all p xs ≡ true → slice_get xs k ≡ Some y → p y ≡ true
+  all_at p [] k y h e = cc
+  all_at p (x ∷ xs) zero y h e = all_here p x y xs (p x) refl h e
+  all_at p (x ∷ xs) (suc k) y h e = all_at p xs k y (all_later p x xs (p x) h) e

@@ -5,3 +5,5 @@ pub mod Kept
 pub mod Instances
 pub mod Stack
 pub mod Laws
+pub mod Checks
+pub mod Typed

@@ -1,6 +1,7 @@
 //! What holds in every run of a program, as laws: a state comes up in a run after the events that lie before it.
 #![tactic(auto)]
 
+ghost use Rattle.gimple_claims.specs.Checks.{FunctionsAreChecked, NothingIsLost};
 ghost use Rattle.gimple_claims.specs.Laws.{SerialsGrow, FramesAreLiveCalls, LivingAreOfFrames, ReadOnlyKeep, RegistersAreDeclared};
 
 /// Each frame and each event so far has a serial below the next one.
@@ -28,3 +29,16 @@ pub fn read_only_globals_keep()
 pub fn registers_are_declared()
     ensures { RegistersAreDeclared }
 {}
+
+/// In a program without a type fault each function has blocks, and each of its statements and ends passes its checks.
+pub fn functions_are_checked()
+    ensures { FunctionsAreChecked }
+{
+}
+
+/// In a run of a program without a type fault the callee of each call has a first block, and each block that an end
+/// leads to is there; so `Abort` comes of `abort` alone.
+pub fn nothing_is_lost()
+    ensures { NothingIsLost }
+{
+}

@@ -1,5 +1,7 @@
 pub mod NameLemmas
 pub mod NumberLemmas
+pub mod RangeLemmas
+pub mod ScalarLemmas
 pub mod LayoutLemmas
 pub mod Simulation
 pub mod Dropping
