@@ -1,5 +1,5 @@
 -- What a statement that is no call does to the world.
-use Rattle.std.proofs.Common.{◌≡◌, ℕ, ◌+◌, ◌==◌, ◌&&◌, ℤ, pos, negsuc, Bool, true, false, List, [], ◌∷◌, refl, sym, ap, subst, Option, Some, None, Result, Ok, Err, if◌then◌else◌, nat_lt, slice_get}
+use Rattle.std.proofs.Common.{◌≡◌, ℕ, ◌+◌, ℤ, pos, negsuc, Bool, true, false, List, refl, subst, Option, Some, None, Result, Ok, Err, if◌then◌else◌, nat_lt, slice_get}
 use Rattle.std.specs.List.{find}
 use Rattle.gimple_ir.specs.declared.scalar.Scalar.{Scalar}
 use Rattle.gimple_ir.specs.declared.value.Value.{Value}
@@ -15,7 +15,7 @@ use Rattle.gimple_core.specs.declared.machine.Extent.{Extent}
 use Rattle.gimple_core.specs.declared.machine.FoundSlot.{FoundSlot}
 use Rattle.gimple_core.specs.Memory.{Memory, found_at, found_extent, found_offset, found_slot, put_slot, is_slot, same_object}
 use Rattle.gimple_core.specs.State.{World, Scope}
-use Rattle.gimple_core.specs.Run.{act, assign, assign_result, loaded, stored, got, put, arith_of, value_of, place_value}
+use Rattle.gimple_core.specs.Run.{act, assign, assign_result, loaded, stored, got}
 
 pub data Acts (m : World) : World → Type 0 where
   assigns : (to : List ℕ) (v : Value) → Acts m (assign m to v)

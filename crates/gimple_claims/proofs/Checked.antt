@@ -1,8 +1,7 @@
 -- From an accepted program to the checks of each of its functions.
-use Rattle.std.proofs.Common.{◌≡◌, ℕ, ◌+◌, Bool, true, false, not, List, [], ◌∷◌, ◌++◌, map, length, refl, sym, ◌∙◌, ap, subst, append_assoc, append-nil, Option, Some, None, Result, Ok, Err, if◌then◌else◌}
+use Rattle.std.proofs.Common.{◌≡◌, ℕ, ◌+◌, Bool, true, false, not, List, [], ◌∷◌, ◌++◌, map, length, sym, ◌∙◌, ap, subst, append_assoc, append-nil, Option, Some, None, Ok, if◌then◌else◌}
 use Rattle.std.specs.Prelude.{nat_le, ◌==◌}
 use Rattle.std.specs.List.{find, list_any}
-use Rattle.gimple_ir.specs.declared.fault.Site.TheVariants as site
 use Rattle.gimple_ir.specs.declared.declarations.Register.{Register}
 use Rattle.gimple_ir.specs.declared.declarations.Decl.{Decl}
 use Rattle.gimple_ir.specs.declared.declarations.StructDef.{StructDef}
@@ -21,9 +20,9 @@ use Rattle.gimple_core.specs.Accepted.{checked, first_fault, known_env}
 use Rattle.gimple_core.proofs.Passed.{first_passed, demanded, at_passed, no_fault}
 use Rattle.gimple_core.proofs.EnvLemmas.{declared_new}
 use Rattle.gimple_core.proofs.KeptAccepted.{heads_are, Each}
-use Rattle.gimple_claims.specs.Checks.{env_of, StmtsPass, BlockPasses, BlocksPass, IsChecked, FunctionsAreChecked}
+use Rattle.gimple_claims.specs.Checks.{StmtsPass, BlocksPass, IsChecked, FunctionsAreChecked}
 
-ok_same : {A E : Type 0} {a b : A} → pure {E = E} a ≡ Ok b → a ≡ b
+pub ok_same : {A E : Type 0} {a b : A} → pure {E = E} a ≡ Ok b → a ≡ b
 ok_same e = cc
 
 -- ---- what a function sees

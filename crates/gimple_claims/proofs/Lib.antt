@@ -17,3 +17,6 @@ pub mod ReadOnly
 pub mod Registers
 pub mod Checked
 pub mod Lost
+pub mod TypedValues
+pub mod TypedStmts
+pub mod Typed

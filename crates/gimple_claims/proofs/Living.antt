@@ -1,5 +1,5 @@
 -- Each living object is a global or a local of a frame of the state.
-use Rattle.std.proofs.Common.{◌≡◌, ℕ, ◌+◌, ◌==◌, ◌&&◌, ◌||◌, not, ℤ, Bool, true, false, List, [], ◌∷◌, map, refl, sym, ◌∙◌, ap, subst, Option, Some, None, Result, Ok}
+use Rattle.std.proofs.Common.{◌≡◌, ℕ, ◌+◌, ◌==◌, ◌||◌, not, ℤ, Bool, true, false, List, [], ◌∷◌, map, refl, sym, ◌∙◌, subst, Option, Some, None}
 use Rattle.std.specs.List.{list_all, list_any}
 use Rattle.std.proofs.lemmas.Bool.{eqb-true, eq-eqb}
 use Rattle.gimple_ir.specs.declared.declarations.Global.{Global}
@@ -10,16 +10,14 @@ use Rattle.gimple_ir.specs.declared.value.Object.TheVariants.{Global as GlobalOb
 use Rattle.gimple_ir.specs.declared.program.Function.{Function}
 use Rattle.gimple_ir.specs.declared.program.Program.{Program}
 use Rattle.gimple_core.specs.declared.machine.Extent.{Extent}
-use Rattle.gimple_core.specs.Layout.{layout_of}
 use Rattle.gimple_core.specs.Memory.{Memory, is_elsewhere, without_frame}
 use Rattle.gimple_core.specs.State.{Frame, World, State, scope_of}
-use Rattle.gimple_core.specs.Run.{Did, step, with_globals, with_locals, with_object, no_memory, function_named, main_name, begun, begun_by, start}
-use Rattle.gimple_core.specs.Trace.{Event, told, after, main_entry}
-use Rattle.gimple_claims.specs.Runs.{Comes}
+use Rattle.gimple_core.specs.Run.{Did, step, with_globals, with_locals, no_memory, function_named, main_name, begun, begun_by}
+use Rattle.gimple_core.specs.Trace.{Event, told, after}
 use Rattle.gimple_claims.specs.Stack.{serials}
 use Rattle.gimple_claims.specs.Laws.{lives_in, LivingAreOfFrames}
 use Rattle.std.proofs.lemmas.List.Folds.{list_all-append}
-use Rattle.gimple_claims.proofs.Comes.{InDid, IsKept, holds}
+use Rattle.gimple_claims.proofs.Comes.{InDid, holds}
 use Rattle.gimple_claims.proofs.Steps.{Steps, acts, calls, jumps, leaves, stops, traps, step_is}
 use Rattle.gimple_claims.proofs.Acts.{Acts, assigns, takes, prints, stores, acts_is}
 use Rattle.gimple_claims.proofs.Lists.{all_kept, all_weaker}

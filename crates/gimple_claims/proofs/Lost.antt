@@ -1,5 +1,5 @@
 -- In a run of an accepted program the callee of a call, and the block that an end leads to, are there.
-use Rattle.std.proofs.Common.{◌≡◌, ℕ, ◌==◌, ◌||◌, ℤ, Bool, true, false, List, [], ◌∷◌, map, refl, sym, ◌∙◌, ap, subst, Option, Some, None, Result, Ok, Err, if◌then◌else◌}
+use Rattle.std.proofs.Common.{◌≡◌, ℕ, ◌==◌, ◌||◌, ℤ, Bool, true, false, List, [], ◌∷◌, map, refl, sym, ◌∙◌, subst, Option, Some, None, Ok, if◌then◌else◌}
 use Rattle.std.specs.List.{find, list_any}
 use Rattle.std.proofs.lemmas.Bool.{eqb-true, eq-eqb}
 use Rattle.gimple_ir.specs.declared.statement.Stmt.{Stmt}
@@ -12,8 +12,8 @@ use Rattle.gimple_ir.specs.declared.program.Function.{Function}
 use Rattle.gimple_ir.specs.declared.program.Program.{Program}
 use Rattle.gimple_core.specs.State.{Control, Frame, State}
 use Rattle.gimple_core.specs.Run.{Did, step, Calling, call_of, function_named, main_name, block_at, case_target, case_for, begun, begun_by}
-use Rattle.gimple_core.specs.Trace.{Event, told, after}
-use Rattle.gimple_core.specs.Verdict.{demand, found}
+use Rattle.gimple_core.specs.Trace.{Event}
+use Rattle.gimple_core.specs.Verdict.{found}
 use Rattle.gimple_core.specs.Env.{Env, Names, named, functions_by_name}
 use Rattle.gimple_core.specs.Statements as s
 use Rattle.gimple_core.specs.Declarations.{has_blocks}
@@ -21,15 +21,15 @@ use Rattle.gimple_core.specs.Accepted.{first_fault}
 use Rattle.gimple_core.proofs.Passed.{first_passed, demanded, found_so}
 use Rattle.gimple_core.proofs.EnvLemmas.{named_find}
 use Rattle.gimple_claims.specs.Runs.{Comes}
-use Rattle.gimple_claims.specs.Exits.{ToLabel, Returns, exit_of}
-use Rattle.gimple_claims.specs.Checks.{env_of, StmtsPass, BlockPasses, BlocksPass, IsChecked, FoundCallee, NothingLost, NothingIsLost}
+use Rattle.gimple_claims.specs.Exits.{ToLabel, exit_of}
+use Rattle.gimple_claims.specs.Checks.{env_of, StmtsPass, BlockPasses, BlocksPass, IsChecked, FoundCallee, NothingIsLost}
 use Rattle.gimple_claims.proofs.Comes.{InDid, holds}
 use Rattle.gimple_claims.proofs.Steps.{Steps, acts, calls, jumps, leaves, stops, traps, step_is}
 use Rattle.gimple_claims.proofs.Checked.{functions_are_checked}
 
 -- ---- callees
 
-called_of : (env : Env) (names : Names Function) (x : Stmt) (c : Calling) → call_of x ≡ Some c → s.statement env names x ≡ Ok tt → s.called env names c.to c.callee c.arguments ≡ Ok tt
+pub called_of : (env : Env) (names : Names Function) (x : Stmt) (c : Calling) → call_of x ≡ Some c → s.statement env names x ≡ Ok tt → s.called env names c.to c.callee c.arguments ≡ Ok tt
 unfolding s.statement
 called_of env names (Copy to from) c e h = cc
 called_of env names (Arith to left op right) c e h = cc

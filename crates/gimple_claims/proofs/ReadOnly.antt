@@ -1,7 +1,7 @@
 -- The slots of a read-only global hold what they held when the run began.
-use Rattle.std.proofs.Common.{◌≡◌, ℕ, ◌+◌, ◌==◌, ◌&&◌, not, ℤ, Bool, true, false, List, [], ◌∷◌, filter, refl, sym, ◌∙◌, ap, subst, Option, Some, None, Result, Ok}
+use Rattle.std.proofs.Common.{◌≡◌, ℕ, ◌==◌, ◌&&◌, Bool, true, false, List, filter, refl, sym, ◌∙◌, ap, subst, Some}
 use Rattle.std.specs.List.{find}
-use Rattle.std.proofs.lemmas.Bool.{eqb-true, eq-eqb}
+use Rattle.std.proofs.lemmas.Bool.{eqb-true}
 use Rattle.gimple_ir.specs.declared.scalar.Scalar.{Scalar}
 use Rattle.gimple_ir.specs.declared.value.Value.{Value}
 use Rattle.gimple_ir.specs.declared.value.Object.{Object}
@@ -12,9 +12,8 @@ use Rattle.gimple_core.specs.declared.machine.MemorySlot.{MemorySlot}
 use Rattle.gimple_core.specs.declared.machine.FoundSlot.{FoundSlot}
 use Rattle.gimple_core.specs.Memory.{Memory, same_object, same_scalar, is_slot, is_elsewhere, without_frame, put_slot}
 use Rattle.gimple_core.specs.State.{World, State, scope_of}
-use Rattle.gimple_core.specs.Run.{Did, step, start}
+use Rattle.gimple_core.specs.Run.{Did, step}
 use Rattle.gimple_core.specs.Trace.{Event, told, after}
-use Rattle.gimple_claims.specs.Runs.{Comes}
 use Rattle.gimple_claims.specs.Laws.{constant_of, is_read_only, slots_of, ReadOnlyKeep}
 use Rattle.gimple_core.proofs.Dropping.{first_kept}
 use Rattle.gimple_claims.proofs.Comes.{InDid, holds}

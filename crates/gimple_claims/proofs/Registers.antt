@@ -1,5 +1,5 @@
 -- Each frame has the registers of its function.
-use Rattle.std.proofs.Common.{◌≡◌, ℕ, ◌+◌, ℤ, List, [], ◌∷◌, ◌++◌, map, refl, sym, ◌∙◌, ap, subst, Option, Some, None}
+use Rattle.std.proofs.Common.{◌≡◌, ℕ, ◌+◌, ℤ, List, [], ◌∷◌, ◌++◌, refl, sym, ◌∙◌, ap, subst, Option, Some, None}
 use Rattle.std.proofs.lemmas.List.{map-append}
 use Rattle.gimple_ir.specs.declared.declarations.Register.{Register}
 use Rattle.gimple_ir.specs.declared.value.Value.{Value}
@@ -8,11 +8,10 @@ use Rattle.gimple_ir.specs.declared.program.Function.{Function}
 use Rattle.gimple_ir.specs.declared.program.Program.{Program}
 use Rattle.gimple_core.specs.declared.machine.Cell.{Cell}
 use Rattle.gimple_core.specs.Names.{same_name}
-use Rattle.gimple_core.specs.State.{Frame, World, State, assigned, scope_of}
+use Rattle.gimple_core.specs.State.{World, State, assigned, scope_of}
 use Rattle.gimple_core.specs.Run.{Did, step, given, cells_made, function_named, main_name, begun, begun_by}
 use Rattle.gimple_core.specs.Trace.{Event, told, after}
-use Rattle.gimple_claims.specs.Runs.{Comes}
-use Rattle.gimple_claims.specs.Laws.{Key, keys, register_keys, HasRegisters, FramesHaveRegisters, StateHasRegisters, RegistersAreDeclared}
+use Rattle.gimple_claims.specs.Laws.{keys, register_keys, FramesHaveRegisters, StateHasRegisters, RegistersAreDeclared}
 use Rattle.gimple_claims.proofs.Comes.{InDid, holds}
 use Rattle.gimple_claims.proofs.Steps.{Steps, acts, calls, jumps, leaves, stops, traps, step_is}
 use Rattle.gimple_claims.proofs.Acts.{Acts, assigns, takes, prints, stores, acts_is}

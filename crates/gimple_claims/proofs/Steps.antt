@@ -12,7 +12,6 @@ use Rattle.gimple_core.specs.Memory.{without_frame}
 use Rattle.gimple_core.specs.State.{Frame, World, State, scope_of}
 use Rattle.gimple_core.specs.Run.{step, stepped, given, cells_made, with_locals, control_made, Calling, call_of, Did, Goes, Reaches, Moves, Stops, Traps, CallEntry, Jump, CallReturn, performed, act, acted, resumed, finish, jumped, block_at, block_place, place_or, returned, entered, enter, values_of, function_named, main_name, begun, begun_by}
 use Rattle.gimple_core.specs.Trace.{Event, Entry, At, Load, Store, Leave, main_entry, told, told_by, access, crossing, after}
-use Rattle.gimple_claims.specs.Runs.{Comes}
 use Rattle.gimple_claims.specs.Bodies.{EachOf}
 use Rattle.gimple_claims.specs.Laws.{IsOlder, OlderFrames, Older, SerialsGrow}
 use Rattle.gimple_claims.specs.Exits.{ToLabel, Returns, exit_of}

@@ -1,5 +1,5 @@
 -- What the checks of a program without a type fault say of its functions and of its runs.
-use Rattle.std.specs.Prelude.{◌≡◌, ℕ, ℤ, true, List, [], ◌∷◌, ◌++◌, map, Option, Some, None, Ok}
+use Rattle.std.specs.Prelude.{◌≡◌, ℕ, ℤ, true, List, [], ◌∷◌, ◌++◌, map, Some, None, Ok}
 use Rattle.gimple_ir.specs.declared.statement.Stmt.{Stmt}
 use Rattle.gimple_ir.specs.declared.block.Block.{Block}
 use Rattle.gimple_ir.specs.declared.program.Function.{Function}

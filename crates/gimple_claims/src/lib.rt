@@ -3,6 +3,7 @@
 
 ghost use Rattle.gimple_claims.specs.Checks.{FunctionsAreChecked, NothingIsLost};
 ghost use Rattle.gimple_claims.specs.Laws.{SerialsGrow, FramesAreLiveCalls, LivingAreOfFrames, ReadOnlyKeep, RegistersAreDeclared};
+ghost use Rattle.gimple_claims.specs.Typed.{ValuesAreTyped};
 
 /// Each frame and each event so far has a serial below the next one.
 pub fn serials_grow()
@@ -33,12 +34,16 @@ pub fn registers_are_declared()
 /// In a program without a type fault each function has blocks, and each of its statements and ends passes its checks.
 pub fn functions_are_checked()
     ensures { FunctionsAreChecked }
-{
-}
+{}
 
 /// In a run of a program without a type fault the callee of each call has a first block, and each block that an end
 /// leads to is there; so `Abort` comes of `abort` alone.
 pub fn nothing_is_lost()
     ensures { NothingIsLost }
-{
-}
+{}
+
+/// In a run of a program without a type fault, on numbers of i64, each register and each slot of memory holds a value of
+/// its scalar.
+pub fn values_are_typed()
+    ensures { ValuesAreTyped }
+{}
