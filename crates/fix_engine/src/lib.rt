@@ -22,7 +22,7 @@ pub use flow::Flow;
 pub use lattice::{Lattice, OutOfMemory, height_bounds_chains};
 pub use lifted::Lifted;
 pub use mark_tree::MarkTree;
-pub use order::{OrderSolver, solve_in_order};
+pub use order::{OrderSolver, outgoing_of, solve_in_order};
 pub use outgoing::Outgoing;
 pub use pair::Pair;
 pub use rows::Rows;

@@ -1,0 +1,4 @@
+pub mod Board
+pub mod Edges
+pub mod Events
+pub mod Pieces
