@@ -7,6 +7,8 @@ mod gate;
 mod gated;
 mod interleaving;
 mod joining;
+#[cfg(test)]
+mod meeting;
 mod name;
 mod workers;
 

@@ -1,0 +1,193 @@
+//! Workers that wait for each other, and the board step by step.
+
+ghost use Rattle.std.specs.Prelude.{◌≡◌, ℕ, ◌<◌, [], IfOk, Some};
+ghost use Rattle.fix_board.specs.Fork.{fork, fork_laws};
+
+use super::*;
+use fix_engine::{Flow, Lattice, OutOfMemory};
+use std::alloc::Global;
+use std::marker::Brand;
+use std::sync::atomic::AtomicUsize;
+use std::sync::atomic::Ordering::SeqCst;
+use std::test::Fail;
+
+/// Where the first call waits for a second one.
+#[derive(Drop)]
+struct Meeting {
+    begun: AtomicUsize,
+    failures: AtomicUsize,
+}
+
+impl Meeting {
+    fn new() -> Meeting {
+        Meeting {
+            begun: AtomicUsize::new(0),
+            failures: AtomicUsize::new(0),
+        }
+    }
+
+    /// The first call looks for a second one, a thousand million times at most, and then notes a failure.
+    fn come(&self) {
+        if self.begun.fetch_add(1, SeqCst) > 0 {
+            return;
+        }
+        for _ in 0..1_000_000_000 {
+            if self.begun.load(SeqCst) > 1 {
+                return;
+            }
+        }
+        self.failures.store(1, SeqCst);
+    }
+
+    fn failures(&self) -> usize {
+        self.failures.load(SeqCst)
+    }
+}
+
+/// Node 0, which starts true, with an edge to each of two others.
+#[derive(Drop)]
+struct Fork {
+    meeting: Meeting,
+}
+
+impl Flow for Fork {
+    type Value = bool;
+
+    ghost kind = { λ _. [] };
+
+    ghost equations = { λ _. fork };
+
+    ghost laws = { λ _. fork_laws };
+
+    fn nodes(&self) -> u32 {
+        3
+    }
+
+    fn edges(&self) -> u32 {
+        2
+    }
+
+    fn ends(&self, edge: u32) -> (u32, u32) {
+        (0, edge + 1)
+    }
+
+    fn start(&self, node: u32) -> Result<bool, OutOfMemory> {
+        Ok(node == 0)
+    }
+
+    fn flow(&self, _edge: u32, from: &bool) -> Result<bool, OutOfMemory> {
+        self.meeting.come();
+        Ok(*from)
+    }
+}
+
+/// Two pieces, each its own index.
+#[derive(Drop)]
+struct Two {
+    meeting: Meeting,
+}
+
+impl Work for Two {
+    type Piece = u32;
+
+    ghost has = { λ _ i. i < 2 };
+
+    ghost pieces = { λ _ i. i };
+
+    fn piece(&self, index: u32) -> Result<u32, OutOfMemory> {
+        self.meeting.come();
+        Ok(index)
+    }
+}
+
+#[test]
+fn two_workers_share_the_flows(rt: HostRuntime) -> Result<(), Fail> {
+    let flow = Fork {
+        meeting: Meeting::new(),
+    };
+    let gate = OpenGate;
+    let found = BoardSolver::new(&rt, 2, &gate).solve(rt.alloc(), &flow)?;
+    assert_eq!(rt; found.into_vec().as_slice(), [true, true, true].as_slice());
+    assert_eq!(rt; flow.meeting.failures(), 0);
+    Ok(())
+}
+
+#[test]
+fn two_workers_share_the_pieces(rt: HostRuntime) -> Result<(), Fail> {
+    let work = Two {
+        meeting: Meeting::new(),
+    };
+    let found = map_gated(&rt, rt.alloc(), 2, 2, &OpenGate, &work)?;
+    assert_eq!(rt; found.into_vec().as_slice(), [0, 1].as_slice());
+    assert_eq!(rt; work.meeting.failures(), 0);
+    Ok(())
+}
+
+/// What the calls of a board gave.
+#[derive(Drop)]
+struct Steps {
+    first: Option<u32>,
+    second: Option<u32>,
+    third: Option<u32>,
+    last: Option<u32>,
+    values: Vec<bool>,
+}
+
+/// Takes three times, posts the first edge, and posts the second or gives it back. Then takes once more, and drains.
+fn stepped<K: System<bool>>(
+    alloc: Global,
+    flow: &Fork,
+    post_second: bool,
+) -> Result<Steps, OutOfMemory>
+    requires named { K.equations ≡ Some fork }
+    requires kind { K.kind ≡ [] }
+{
+    let mut board: Board<bool, K> = Board::new(alloc, flow)?;
+    let first = board.take();
+    let second = board.take();
+    let third = board.take();
+    if let Some(edge) = first {
+        let from = board.source_copy(edge)?;
+        let found = flow.flow(edge, &from)?;
+        board.post_or_back(edge, &from, found)?;
+    }
+    if let Some(edge) = second {
+        let from = board.source_copy(edge)?;
+        let found = flow.flow(edge, &from)?;
+        if post_second && board.may_post(edge, &from) {
+            board.post(edge, &from, found)?;
+        } else {
+            board.back_if_out(edge);
+        }
+    }
+    let last = board.take();
+    board.give_all_back(flow);
+    board.drain(flow)?;
+    let values = board.into_assignment().into_vec();
+    Ok(Steps {
+        first,
+        second,
+        third,
+        last,
+        values,
+    })
+}
+
+#[test]
+fn board_step_by_step(rt: HostRuntime) -> Result<(), Fail> {
+    let flow = Fork {
+        meeting: Meeting::new(),
+    };
+    flow.meeting.begun.store(2, SeqCst);
+    let all = [true, true, true];
+    let posted = stepped::<Brand>(rt.alloc(), &flow, true)?;
+    assert_eq!(rt; posted.first, Some(0));
+    assert_eq!(rt; posted.second, Some(1));
+    assert_eq!(rt; posted.third, None);
+    assert_eq!(rt; posted.last, None);
+    assert_eq!(rt; posted.values.as_slice(), all.as_slice());
+    let given = stepped::<Brand>(rt.alloc(), &flow, false)?;
+    assert_eq!(rt; given.last, Some(1));
+    assert_eq!(rt; given.values.as_slice(), all.as_slice());
+    Ok(())
+}
