@@ -13,7 +13,7 @@ pub mod Lists
 pub mod Acts
 pub mod Locals
 pub mod Living
-pub mod ReadOnly
+pub mod Globals
 pub mod Registers
 pub mod Checked
 pub mod Lost

@@ -29,7 +29,8 @@ module _ (test : Object → Bool) where
   filled_none object (s ∷ ss) [] e = rw e (filled_none object ss [] e)
   filled_none object (s ∷ ss) (v ∷ vs) e = rw e (filled_none object ss vs e)
 
-  object_slots : (m : Memory) (object : Object) (l : Layout) (constant : Bool) (vs : List Value) → test object ≡ false → filter on_slot (with_object m object l constant vs).slots ≡ filter on_slot m.slots
+  -- an object that does not pass the test
+  pub object_slots : (m : Memory) (object : Object) (l : Layout) (constant : Bool) (vs : List Value) → test object ≡ false → filter on_slot (with_object m object l constant vs).slots ≡ filter on_slot m.slots
   object_slots m object l constant vs e =
       filter-append on_slot m.slots (filled object l.slots vs) ∙ (ap (λ ys. filter on_slot m.slots ++ ys) (filled_none object l.slots vs e) ∙ append-nil (filter on_slot m.slots))
 

@@ -1,17 +1,18 @@
 -- What holds of each state that comes up in a run.
-use Rattle.std.specs.Prelude.{◌≡◌, ◌<◌, ℕ, ◌==◌, ◌++◌, ℤ, Bool, true, false, List, [], ◌∷◌, map, filter, find, Option, Some, None}
+use Rattle.std.specs.Prelude.{◌≡◌, ◌<◌, ℕ, ◌==◌, ◌++◌, ℤ, Bool, true, List, [], ◌∷◌, map, filter, find, slice_get, Some}
 use Rattle.std.specs.List.{list_any, list_all}
 use Rattle.gimple_ir.specs.declared.scalar.Scalar.{Scalar}
+use Rattle.gimple_ir.specs.declared.declarations.Global.{Global as GlobalDef}
 use Rattle.gimple_ir.specs.declared.declarations.Register.{Register}
 use Rattle.gimple_ir.specs.declared.value.Object.{Object}
 use Rattle.gimple_ir.specs.declared.value.Object.TheVariants.{Global, Local}
 use Rattle.gimple_ir.specs.declared.program.Program.{Program}
 use Rattle.gimple_core.specs.declared.machine.Cell.{Cell}
-use Rattle.gimple_core.specs.declared.machine.Extent.{Extent}
 use Rattle.gimple_core.specs.declared.machine.MemorySlot.{MemorySlot}
 use Rattle.gimple_core.specs.Memory.{Memory, same_object}
 use Rattle.gimple_core.specs.State.{Control, Frame, State}
-use Rattle.gimple_core.specs.Run.{start}
+use Rattle.gimple_core.specs.Layout.{layout_of}
+use Rattle.gimple_core.specs.Run.{filled, item_value}
 use Rattle.gimple_core.specs.Trace.{Event, Entry, At, Load, Store, Leave}
 use Rattle.gimple_claims.specs.Runs.{Comes}
 use Rattle.gimple_claims.specs.Bodies.{EachOf}
@@ -54,23 +55,19 @@ lives_in ns (Local serial k) = list_any (λ n. n == serial) ns
 abbrev pub LivingAreOfFrames : Type 0
 LivingAreOfFrames = (p : Program) (input : List ℤ) (past : List Event) (s : State) → Comes p input past s → list_all (λ x. lives_in (serials s) x.object) s.world.memory.living ≡ true
 
--- ---- read-only globals
-
-abbrev pub constant_of : Option Extent → Bool
-constant_of None = false
-constant_of (Some x) = x.constant
-
--- whether the global lives and no store may go there
-abbrev pub is_read_only : ℕ → Memory → Bool
-is_read_only k m = constant_of (find (λ x. same_object x.object (Global k)) m.living)
+-- ---- globals
 
 abbrev pub slots_of : ℕ → Memory → List MemorySlot
 slots_of k m = filter (λ x. same_object x.object (Global k)) m.slots
 
--- the slots of a read-only global hold what they held when the run began
-abbrev pub ReadOnlyKeep : Type 0
-ReadOnlyKeep = (p : Program) (input : List ℤ) (past : List Event) (first s : State) (k : ℕ) → start p input ≡ Some first → Comes p input past s →
-    is_read_only k first.world.memory ≡ true → slots_of k s.world.memory ≡ slots_of k first.world.memory
+-- the global of this number lives, and if it is read-only its slots hold its items, then zero or null
+pub record HoldsGlobal (p : Program) (k : ℕ) (g : GlobalDef) (m : Memory) : Type 0 where
+  pub lives : find (λ x. same_object x.object (Global k)) m.living ≡ Some (record { object = Global k; size = (layout_of p.structs g.decl).size; constant = g.constant })
+  pub items : g.constant ≡ true → slots_of k m ≡ filled (Global k) (layout_of p.structs g.decl).slots (map (item_value p.globals) g.items)
+
+-- in each state of each run, for each global
+abbrev pub GlobalsHold : Type 0
+GlobalsHold = (p : Program) (input : List ℤ) (past : List Event) (s : State) → Comes p input past s → (k : ℕ) (g : GlobalDef) → slice_get p.globals k ≡ Some g → HoldsGlobal p k g s.world.memory
 
 -- ---- registers
 

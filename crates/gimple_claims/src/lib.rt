@@ -2,7 +2,7 @@
 #![tactic(auto)]
 
 ghost use Rattle.gimple_claims.specs.Checks.{FunctionsAreChecked, NothingIsLost};
-ghost use Rattle.gimple_claims.specs.Laws.{SerialsGrow, FramesAreLiveCalls, LivingAreOfFrames, ReadOnlyKeep, RegistersAreDeclared};
+ghost use Rattle.gimple_claims.specs.Laws.{SerialsGrow, FramesAreLiveCalls, LivingAreOfFrames, GlobalsHold, RegistersAreDeclared};
 ghost use Rattle.gimple_claims.specs.Typed.{ValuesAreTyped};
 
 /// Each frame and each event so far has a serial below the next one.
@@ -21,9 +21,9 @@ pub fn living_objects_are_of_frames()
     ensures { LivingAreOfFrames }
 {}
 
-/// The slots of a read-only global hold what they held when the run began.
-pub fn read_only_globals_keep()
-    ensures { ReadOnlyKeep }
+/// Each global lives throughout a run, and the slots of a read-only one hold its items, then zero or null.
+pub fn globals_hold()
+    ensures { GlobalsHold }
 {}
 
 /// Each frame has the formals and registers of its function, under their names and scalars.

@@ -1,12 +1,10 @@
 -- A program runs as before without the functions outside a closed set of names: the two are always in the same state.
-use Rattle.std.proofs.Common.{◌≡◌, ◌↔◌, ℕ, zero, suc, ℤ, Bool, true, false, cond, List, [], ◌∷◌, ◌++◌, refl, sym, ◌∙◌, ap, subst, Option, Some, None, Result, Ok, Err, IsTrue, filter, ◌==◌, if◌then◌else◌}
+use Rattle.std.proofs.Common.{◌≡◌, ◌↔◌, ℕ, ℤ, Bool, true, false, cond, List, [], ◌∷◌, refl, sym, ◌∙◌, ap, subst, Option, Some, None, Result, Ok, Err, IsTrue, filter, ◌==◌, if◌then◌else◌}
 use Rattle.std.specs.List.{find}
 use Rattle.gimple_ir.specs.declared.statement.Stmt.{Stmt}
-use Rattle.gimple_ir.specs.declared.block.Case.{Case}
 use Rattle.gimple_ir.specs.declared.block.End.{End}
 use Rattle.gimple_ir.specs.declared.block.End.TheVariants.{Goto, If, Switch, Return}
 use Rattle.gimple_ir.specs.declared.value.Value.{Value}
-use Rattle.gimple_ir.specs.declared.operand.Operand.{Operand}
 use Rattle.gimple_ir.specs.declared.block.Block.{Block}
 use Rattle.gimple_ir.specs.declared.declarations.Global.{Global}
 use Rattle.gimple_ir.specs.declared.program.Function.{Function}
@@ -15,10 +13,10 @@ use Rattle.gimple_ir.specs.declared.program.Program.{Program}
 use Rattle.gimple_core.specs.Names.{same_name}
 use Rattle.gimple_ir.specs.declared.value.TrapKind.{TrapKind}
 use Rattle.gimple_core.specs.State.{Control, Frame, World, State, scope_of}
-use Rattle.gimple_core.specs.Run.{Calling, call_of, call, Did, Goes, Reaches, Reached, Moves, Stops, Traps, CallEntry, perform, performed, act, acted, resumed, finish, jump, jumped, returned, entered, enter, function_named, main_name, begun, begun_by, runs_from, Run}
+use Rattle.gimple_core.specs.Run.{Calling, call_of, call, Reached, Moves, Stops, Traps, performed, act, acted, resumed, finish, jump, jumped, returned, entered, enter, function_named, main_name, begun, begun_by, runs_from, Run}
 use Rattle.gimple_core.proofs.Simulation.{Matches, Does, Stands, Follows, simulates, runs_same, one}
 use Rattle.gimple_core.proofs.NameLemmas.{same_name_true}
-use Rattle.gimple_core.specs.Reach.{CallIn, CallInBlocks, IsReached, main, called, here, later, IsClosed, IsWithoutUnreached, KeptRuns, ReachedRuns}
+use Rattle.gimple_core.specs.Reach.{CallIn, CallInBlocks, IsReached, main, called, IsClosed, KeptRuns, ReachedRuns}
 
 -- ---- calls that stay within a set of names
 

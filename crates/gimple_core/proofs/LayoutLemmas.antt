@@ -1,5 +1,5 @@
 -- Layouts: their slots begin within their sizes, and a struct's size is not below those of its fields.
-use Rattle.std.proofs.Common.{◌≡◌, ℕ, zero, suc, ◌+◌, ◌-◌, ◌*◌, ◌/◌, ◌%◌, ◌<◌, ◌≤◌, max, length, get_or, take, drop, add-one, Bool, true, false, if◌then◌else◌, List, [], ◌∷◌, ◌++◌, map, refl, sym, ◌∙◌, ap, subst, arith, Option, Some, None}
+use Rattle.std.proofs.Common.{◌≡◌, ℕ, zero, suc, ◌+◌, ◌-◌, ◌*◌, ◌/◌, ◌%◌, ◌<◌, ◌≤◌, length, get_or, take, drop, add-one, Bool, true, false, if◌then◌else◌, List, [], ◌∷◌, ◌++◌, refl, sym, ◌∙◌, ap, arith, Option, Some, None}
 use Rattle.std.proofs.Math.Nat.{div-add-mod, mod-lt}
 use Rattle.std.proofs.Math.Seq.{take-suc}
 use Rattle.std.proofs.lemmas.List.{take-append-drop}
@@ -17,7 +17,6 @@ use Rattle.gimple_ir.specs.declared.value.LayoutSlot.{LayoutSlot}
 use Rattle.gimple_ir.specs.declared.value.Layout.{Layout}
 use Rattle.gimple_core.specs.declared.layout.KnownLayout.{KnownLayout}
 use Rattle.gimple_core.specs.Names.{same_name}
-use Rattle.gimple_core.specs.Operators.{bits_of}
 use Rattle.gimple_core.specs.Layout.{empty_layout, round_up, moved, known_layout, shape_layout, repeated, count_of, array_layout, decl_layout, with_field, with_fields, struct_layouts, IsLayout}
 
 -- ---- rounding

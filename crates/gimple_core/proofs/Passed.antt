@@ -1,5 +1,5 @@
 -- From passed checks to what they found, and back.
-use Rattle.std.proofs.Common.{◌≡◌, ℕ, Bool, true, false, not, Option, Some, None, Result, Ok, Err, refl, sym, subst, ap}
+use Rattle.std.proofs.Common.{◌≡◌, ℕ, Bool, true, false, not, Option, Some, None, Result, Ok, Err, refl, sym, subst}
 use Rattle.gimple_ir.specs.declared.fault.Site.{Site}
 use Rattle.gimple_core.specs.Verdict.{Verdict, Judgement, and_then, demand, found, at, fault_of}
 

@@ -1,7 +1,6 @@
 -- The results of operators lie in their scalars.
-use Rattle.std.proofs.Common.{◌≡◌, ℕ, zero, suc, ◌+◌, ◌-◌, ◌*◌, ◌/◌, ◌%◌, ◌^◌, ◌==◌, ◌<◌, ◌≤◌, ℤ, pos, negsuc, neg_ℤ, ◌+ℤ◌, ◌-ℤ◌, ◌*ℤ◌, Bool, true, false, not, ◌&&◌, refl, sym, ◌∙◌, ap, subst, arith, Result, Ok, Err, if◌then◌else◌, unsigned_abs, int_div, int_rem, lit≤, lit<}
-use Rattle.std.specs.Prelude.{int_le, int_lt, bit_and, bit_or, bit_xor}
-use Rattle.std.specs.Int.{int_rem_euclid, int_shr}
+use Rattle.std.proofs.Common.{◌≡◌, ℕ, zero, suc, ◌*◌, ◌/◌, ◌%◌, ◌^◌, ◌<◌, ◌≤◌, ℤ, pos, negsuc, neg_ℤ, ◌+ℤ◌, ◌-ℤ◌, ◌*ℤ◌, Bool, true, false, refl, sym, subst, arith, Result, Ok, Err, if◌then◌else◌, unsigned_abs, int_div, int_rem}
+use Rattle.std.specs.Int.{int_shr}
 use Rattle.std.specs.Int.Bits.{and_lt}
 use Rattle.std.proofs.lemmas.Int.{ints}
 use Rattle.std.proofs.lemmas.Nat.{pow_pos, or_lt, xor_lt}

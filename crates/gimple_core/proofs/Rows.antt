@@ -1,10 +1,10 @@
 -- Small programs, run by computing.
-use Rattle.std.proofs.Common.{◌≡◌, ℕ, ℤ, pos, List, [], ◌∷◌, refl, Option, Some, None, true}
+use Rattle.std.proofs.Common.{◌≡◌, ℕ, pos, List, [], ◌∷◌, refl, Option, Some, None, true}
 use Rattle.std.specs.Fmt.{digits}
 use Rattle.gimple_ir.specs.declared.scalar.Scalar.{Scalar}
 use Rattle.gimple_ir.specs.declared.scalar.Scalar.TheVariants.{I8, I16, I32, I64, U8, Ptr}
 use Rattle.gimple_ir.specs.declared.scalar.Op.TheVariants.{Add, Div, Shl}
-use Rattle.gimple_ir.specs.declared.operand.Operand.TheVariants.{Reg, Number, Null, Address}
+use Rattle.gimple_ir.specs.declared.operand.Operand.TheVariants.{Reg, Number, Address}
 use Rattle.gimple_ir.specs.declared.operand.Base.TheVariants.{Reg as RegBase}
 use Rattle.gimple_ir.specs.declared.statement.Stmt.{Stmt}
 use Rattle.gimple_ir.specs.declared.statement.Stmt.TheVariants.{Copy, Arith, Load, Store, Call, Put, Abort}
@@ -13,8 +13,6 @@ use Rattle.gimple_ir.specs.declared.block.End.TheVariants.{Return}
 use Rattle.gimple_ir.specs.declared.declarations.Register.{Register}
 use Rattle.gimple_ir.specs.declared.declarations.Shape.TheVariants.{Plain, Named}
 use Rattle.gimple_ir.specs.declared.declarations.Decl.{Decl}
-use Rattle.gimple_ir.specs.declared.declarations.StructDef.{StructDef}
-use Rattle.gimple_ir.specs.declared.declarations.Global.{Global}
 use Rattle.gimple_ir.specs.declared.program.Function.{Function}
 use Rattle.gimple_ir.specs.declared.program.Program.{Program}
 use Rattle.gimple_ir.specs.declared.value.Layout.{Layout}

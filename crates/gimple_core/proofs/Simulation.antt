@@ -1,13 +1,12 @@
 -- Two programs that run alike, by a relation between their states.
-use Rattle.std.proofs.Common.{◌≡◌, ℕ, zero, suc, List, [], ◌∷◌, ◌++◌, refl, sym, ◌∙◌, ap, subst, Bool, true, false, if◌then◌else◌, Option, Some, None, ℤ, Result, Ok, Err}
+use Rattle.std.proofs.Common.{◌≡◌, ℕ, zero, suc, List, [], ◌∷◌, ◌++◌, refl, sym, ap, subst, Option, Some, None, Result, Ok, Err}
 use Rattle.gimple_ir.specs.declared.program.Program.{Program}
-use Rattle.gimple_ir.specs.declared.declarations.Global.{Global}
 use Rattle.gimple_ir.specs.declared.statement.Stmt.{Stmt}
 use Rattle.gimple_ir.specs.declared.value.Outcome.{Outcome}
-use Rattle.gimple_ir.specs.declared.value.Outcome.TheVariants.{Going, Ended, Trapped}
+use Rattle.gimple_ir.specs.declared.value.Outcome.TheVariants.{Going}
 use Rattle.gimple_ir.specs.declared.value.TrapKind.{TrapKind}
 use Rattle.gimple_core.specs.State.{World, State, scope_of}
-use Rattle.gimple_core.specs.Run.{Calling, call_of, performed, call, act, acted, Reached, Moves, Stops, Traps, Did, Goes, Reaches, Transfer, perform, finish, resumed, then_walk, walk, paused, then_run, runs}
+use Rattle.gimple_core.specs.Run.{Calling, call_of, performed, act, acted, Reached, Moves, Stops, Traps, Did, Goes, Reaches, perform, finish, resumed, then_walk, walk, paused, then_run, runs}
 
 -- the same way to end, in related states
 abbrev pub Matches : (State → State → Type 0) → Reached → Reached → Type 0

@@ -1,5 +1,5 @@
 -- The functions that main reaches by calls, in any block.
-use Rattle.std.specs.Prelude.{◌≡◌, ◌↔◌, ℕ, ℤ, Bool, List, [], ◌∷◌, Option, Some, None, IsTrue, filter}
+use Rattle.std.specs.Prelude.{◌≡◌, ◌↔◌, ℕ, ℤ, Bool, List, ◌∷◌, Some, IsTrue, filter}
 use Rattle.gimple_ir.specs.declared.statement.Stmt.{Stmt}
 use Rattle.gimple_ir.specs.declared.block.Block.{Block}
 use Rattle.gimple_ir.specs.declared.program.Function.{Function}

@@ -1,4 +1,4 @@
-use Rattle.std.proofs.Common.{◌≡◌, ◌++◌, ◌∷◌, [], ◌∙◌, ap, sym}
+use Rattle.std.proofs.Common.{◌++◌, ◌∷◌, [], ◌∙◌, ap, sym}
 use Rattle.std.specs.List.{find}
 use Rattle.gimple_core.specs.Names.{same_name}
 use Rattle.gimple_core.proofs.LayoutLemmas.{entry, layouts_next, none_next, settled}

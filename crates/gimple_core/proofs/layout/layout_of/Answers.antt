@@ -1,7 +1,7 @@
 use Rattle.std.proofs.Common.{◌≡◌, ◌≤◌, ◌^◌, [], IfOk, ◌∙◌, ap, sym, subst}
 use Rattle.std.specs.List.{find}
 use Rattle.gimple_core.specs.Names.{same_name}
-use Rattle.gimple_core.specs.Layout.{struct_layouts, layout_of, decl_layout}
+use Rattle.gimple_core.specs.Layout.{struct_layouts, layout_of}
 use Rattle.gimple_core.proofs.LayoutLemmas.{plain_same, named_same}
 use Rattle.gimple_core.proofs.layout.layout_of.Goals as goal
 

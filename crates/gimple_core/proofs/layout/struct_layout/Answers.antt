@@ -1,4 +1,4 @@
-use Rattle.std.proofs.Common.{◌≡◌, ◌+◌, ◌≤◌, ◌^◌, ◌∷◌, suc, drop, add-one, sym, ◌∙◌, ap, subst}
+use Rattle.std.proofs.Common.{◌≡◌, ◌≤◌, ◌^◌, ◌∷◌, suc, drop, add-one, sym, ◌∙◌, ap, subst}
 use Rattle.std.proofs.Math.Seq.{drop-cons}
 use Rattle.gimple_core.specs.Layout.{decl_layout, with_field, with_fields, empty_layout, IsLayout}
 use Rattle.gimple_core.proofs.LayoutLemmas.{decl_is, field_is, field_small, decl_small}

@@ -3,7 +3,7 @@ use Rattle.std.specs.Int.{w128}
 use Rattle.std.proofs.lemmas.Int.{to_z-of_z}
 use Rattle.gimple_core.proofs.operators.divide.Goals as goal
 use Rattle.gimple_core.proofs.NumberLemmas.{abs_nonzero, quotient_fits}
-use Rattle.gimple_core.specs.Operators.{op_of, kept}
+use Rattle.gimple_core.specs.Operators.{op_of}
 
 pub returns : goal.returns
 unfolding op_of

@@ -1,4 +1,4 @@
-use Rattle.std.proofs.Common.{◌≡◌, ◌==◌, true, false, unsigned_abs, int_div, int_rem, FitsSigned}
+use Rattle.std.proofs.Common.{◌≡◌, ◌==◌, false, unsigned_abs, int_div, int_rem, FitsSigned}
 use Rattle.std.specs.Int.{w128}
 use Rattle.std.proofs.lemmas.Int.{to_z-of_z}
 use Rattle.gimple_core.proofs.operators.remainder.Goals as goal

@@ -1,8 +1,8 @@
-use Rattle.std.proofs.Common.{◌-ℤ◌, FitsSigned, rules, arith}
+use Rattle.std.proofs.Common.{◌-ℤ◌, FitsSigned, rules}
 use Rattle.std.specs.Int.{w128}
-use Rattle.std.proofs.lemmas.Int.{to_z-of_z, ints}
+use Rattle.std.proofs.lemmas.Int.{to_z-of_z}
 use Rattle.gimple_core.proofs.operators.subtract.Goals as goal
-use Rattle.gimple_core.specs.Operators.{op_of, kept}
+use Rattle.gimple_core.specs.Operators.{op_of}
 
 pub returns : goal.returns
 unfolding op_of

@@ -1,9 +1,9 @@
-use Rattle.std.proofs.Common.{◌≡◌, ℕ, zero, suc, ◌≤◌, ◌^◌, List, [], ◌∷◌, Option, Some, None, refl, sym, ap, subst, take, slice_get, arith, lit≤}
+use Rattle.std.proofs.Common.{◌≡◌, ℕ, zero, suc, ◌≤◌, ◌^◌, List, [], ◌∷◌, Some, None, sym, subst, take, slice_get, lit≤}
 use Rattle.gimple_ir.specs.declared.scalar.Scalar.TheVariants.{I8, I16, I64}
 use Rattle.gimple_ir.specs.declared.declarations.Shape.TheVariants.{Plain, Named}
 use Rattle.gimple_ir.specs.declared.declarations.Decl.{Decl}
 use Rattle.gimple_ir.specs.declared.declarations.StructDef.{StructDef}
-use Rattle.gimple_core.specs.Layout.{layout_of, with_fields, struct_layouts, empty_layout, IsNeeded, HasLayout}
+use Rattle.gimple_core.specs.Layout.{layout_of, with_fields, struct_layouts, empty_layout, HasLayout}
 use Rattle.gimple_core.proofs.tests.lays_out_fields_with_gaps.Goals as goal
 
 abbrev padded : StructDef
