@@ -5,3 +5,4 @@ pub mod StepLemmas
 pub mod MachineLemmas
 pub mod RunLemmas
 pub mod Accepted
+pub mod ExampleLemmas

@@ -10,3 +10,6 @@ mod values;
 mod world;
 
 pub use interpreter::run;
+
+#[cfg(test)]
+mod tests;

@@ -1,0 +1,88 @@
+-- Small programs that are run.
+use Rattle.std.specs.Prelude.{ℕ, ◌<◌, ◌^◌, length, pos, false, List, [], ◌∷◌, ◌++◌, Some, None}
+use Rattle.gimple_ir.specs.declared.scalar.Scalar.TheVariants.{I32, Ptr}
+use Rattle.gimple_ir.specs.declared.scalar.Op.TheVariants.{Add, Div}
+use Rattle.gimple_ir.specs.declared.operand.Operand.TheVariants.{Reg, Number, Address}
+use Rattle.gimple_ir.specs.declared.operand.Base.TheVariants.{Reg as RegBase}
+use Rattle.gimple_ir.specs.declared.declarations.Shape.TheVariants.{Plain}
+use Rattle.gimple_ir.specs.declared.declarations.Global.{Global}
+use Rattle.gimple_ir.specs.declared.statement.Stmt.{Stmt}
+use Rattle.gimple_ir.specs.declared.statement.Stmt.TheVariants.{Copy, Arith, Load, Call, Put}
+use Rattle.gimple_ir.specs.declared.block.End.{End}
+use Rattle.gimple_ir.specs.declared.block.End.TheVariants.{Return}
+use Rattle.gimple_ir.specs.declared.block.Block.{Block}
+use Rattle.gimple_ir.specs.declared.program.Function.{Function}
+use Rattle.gimple_ir.specs.declared.program.Program.{Program}
+use Rattle.std.specs.List.{All}
+use Rattle.gimple_core.specs.Run.{main_name}
+use Rattle.gimple_core.specs.Sealed.{IsAccepted}
+
+abbrev pub a : List ℕ
+a = 97 ∷ []
+
+abbrev pub b : List ℕ
+b = 98 ∷ []
+
+abbrev pub f : List ℕ
+f = 102 ∷ []
+
+abbrev pub g : List ℕ
+g = 103 ∷ []
+
+abbrev pub p : List ℕ
+p = 112 ∷ []
+
+abbrev pub s : List ℕ
+s = 115 ∷ []
+
+abbrev pub one_block : List Stmt → End → List Block
+one_block body end = record { label = 2; body = body; end = end } ∷ []
+
+-- i32 main () { ptr p; i32 a; .. return 0; }
+abbrev pub with_main : List Global → List Function → List Stmt → Program
+with_main globals others body = record {
+  structs = [];
+  globals = globals;
+  functions = others ++ record { name = main_name; params = []; result = Some I32; locals = []; registers = record { name = p; scalar = Ptr } ∷ record { name = a; scalar = I32 } ∷ []; blocks = one_block body (Return (Some (Number (pos 0)))) } ∷ [];
+}
+
+-- i32 f (i32 b) { i32 a; a = 6 / b; return a; }
+abbrev pub divides : Function
+divides = record { name = f; params = record { name = b; scalar = I32 } ∷ []; result = Some I32; locals = []; registers = record { name = a; scalar = I32 } ∷ []; blocks = one_block (Arith a (Number (pos 6)) Div (Reg b) ∷ []) (Return (Some (Reg a))) }
+
+-- ptr f () { local i32 s; return &s; }
+abbrev pub leaks : Function
+leaks = record { name = f; params = []; result = Some Ptr; locals = record { name = s; shape = Plain I32; length = None } ∷ []; registers = []; blocks = one_block [] (Return (Some (Address s (pos 0)))) }
+
+-- global i32 g[2];
+abbrev pub pair : Global
+pair = record { decl = record { name = g; shape = Plain I32; length = Some 2 }; constant = false; items = [] }
+
+-- a = MEM <i32> [p];
+abbrev pub load : Stmt
+load = Load a I32 (record { base = RegBase p; offset = pos 0 })
+
+-- a = f (6); putint (a); a = f (0); putint (a);
+abbrev pub division : Program
+division = with_main [] (divides ∷ []) (Call (Some a) f (Number (pos 6) ∷ []) ∷ Put (Reg a) ∷ Call (Some a) f (Number (pos 0) ∷ []) ∷ Put (Reg a) ∷ [])
+
+abbrev pub null_access : Program
+null_access = with_main [] [] (load ∷ [])
+
+-- p = f (); a = MEM <i32> [p];
+abbrev pub dangling : Program
+dangling = with_main [] (leaks ∷ []) (Call (Some p) f [] ∷ load ∷ [])
+
+-- p = &g; p = p + 8; a = MEM <i32> [p];
+abbrev pub bounds : Program
+bounds = with_main (pair ∷ []) [] (Copy p (Address g (pos 0)) ∷ Arith p (Reg p) Add (Number (pos 8)) ∷ load ∷ [])
+
+-- p = &g@2; a = MEM <i32> [p];
+abbrev pub bad_slot : Program
+bad_slot = with_main (pair ∷ []) [] (Copy p (Address g (pos 2)) ∷ load ∷ [])
+
+-- a program without a type fault, with few variables
+pub record IsExample (program : Program) : Type 0 where
+  pub accepted : IsAccepted program
+  pub globals : length program.globals < 2 ^ 32
+  pub locals : All (λ f. length f.locals < 2 ^ 32) program.functions
