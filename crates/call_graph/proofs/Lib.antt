@@ -14,3 +14,4 @@ pub mod Testing
 pub mod Growing
 pub mod Standing
 pub mod Sofar
+pub mod Small

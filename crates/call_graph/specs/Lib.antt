@@ -3,3 +3,4 @@ pub mod Graph
 pub mod Walk
 pub mod Reached
 pub mod Table
+pub mod Sample

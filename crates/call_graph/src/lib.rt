@@ -6,6 +6,8 @@ mod names;
 mod order;
 mod reach;
 mod rows;
+#[cfg(test)]
+mod tests;
 mod walk;
 
 pub use calls::edges;
