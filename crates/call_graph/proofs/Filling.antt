@@ -1,7 +1,7 @@
 -- A target added to its source's row.
 use Rattle.std.proofs.Common.{◌≡◌, ℕ, ◌+◌, ◌<◌, inl, inr, Bool, List, [], ◌∷◌, ◌++◌, length, set, get_or, drop, refl, sym, ◌∙◌, ap, subst, arith, Vec}
 use Rattle.std.specs.declared.alloc.Global.{Global}
-use Rattle.std.proofs.lemmas.List.{get_or-set_same, get_or-set_other, get_or-map, map-set, length-map, drop_more}
+use Rattle.std.proofs.lemmas.List.{get_or-set_same, get_or-set_other, get_or-map, get_or_append_left, get_or_at, map-append, map-set, length-map, drop_more}
 use Rattle.std.proofs.lemmas.Bool.Decides.{eqb_tells}
 use Rattle.gimple_ir.specs.declared.point.Edge.{Edge}
 use Rattle.call_graph.specs.Walk.{listed, row_at}
@@ -45,3 +45,14 @@ row_pushed rows i t old new low is more =
 
 pub listed_length : (rows : List (Vec ℕ Global)) → length (listed rows) ≡ length rows
 listed_length rows = length-map rows (λ v. v.items)
+
+-- the rows after one more
+pub row_before : (rows : List (Vec ℕ Global)) (v : Vec ℕ Global) (b : ℕ) → b < length rows → row_at (rows ++ v ∷ []) b ≡ row_at rows b
+row_before rows v b low =
+    ap (λ (xs : List (List ℕ)). get_or xs b []) (map-append (λ (x : Vec ℕ Global). x.items) rows (v ∷ []))
+    ∙ get_or_append_left (listed rows) (v.items ∷ []) [] b (omega (arith, low, listed_length rows))
+
+pub row_last : (rows : List (Vec ℕ Global)) (v : Vec ℕ Global) → row_at (rows ++ v ∷ []) (length rows) ≡ v.items
+row_last rows v =
+    ap (λ (xs : List (List ℕ)). get_or xs (length rows) []) (map-append (λ (x : Vec ℕ Global). x.items) rows (v ∷ []))
+    ∙ get_or_at (listed rows) v.items [] [] (length rows) (listed_length rows)

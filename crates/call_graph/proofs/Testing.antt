@@ -1,5 +1,5 @@
 -- What the tests on the table say.
-use Rattle.std.proofs.Common.{◌≡◌, ℕ, ◌<◌, ◌⊎◌, ◌||◌, ◌&&◌, not, inl, inr, Bool, true, false, List, [], ◌∷◌, get_or, refl, sym, subst, Vec}
+use Rattle.std.proofs.Common.{◌≡◌, ℕ, ◌<◌, ◌⊎◌, ◌||◌, ◌&&◌, inl, inr, Bool, true, false, List, [], ◌∷◌, get_or, refl, subst, Vec}
 use Rattle.std.specs.declared.alloc.Global.{Global}
 use Rattle.std.specs.List.{Contains}
 use Rattle.std.proofs.lemmas.List.Elements.{Contains-append_left, Contains-append_right, Contains-push}
@@ -22,14 +22,6 @@ or_true false b h = inr h
 or_false : (a b : Bool) → (a || b) ≡ false → (a ≡ false) × (b ≡ false)
 or_false true b h = cc h
 or_false false b h = (refl, h)
-
-passes : (a b : Bool) → (not a || b) ≡ true → a ≡ true → b ≡ true
-passes true b h e = h
-passes false b h e = cc e
-
-fails : (a b : Bool) → (not a || b) ≡ false → (a ≡ true) × (b ≡ false)
-fails true b h = (refl, h)
-fails false b h = cc h
 
 row_each : (table : List (Vec Bool Global)) (marks : List Bool) (a : ℕ) (ys : List ℕ) → row_ok table marks a ys ≡ true → (y : ℕ) → Contains ys y → target_ok table marks a y ≡ true
 row_each table marks a [] h y k = let no = nothing y k in elim no [ ]
@@ -64,25 +56,22 @@ module _ (out : ℕ → List ℕ) (n : ℕ) (table : List (Vec Bool Global)) (te
       let second = ((tells b q).exact a p).1 back in
       cc (first, second)
 
-  pub ready_when : (rows : ℕ → List ℕ) → rows ≡ out → (a : ℕ) → a < n → ((x : ℕ) → x < n → (not (mutual_in table a x) || row_ok table marks a (rows x)) ≡ true) → IsReady out standing a
-  ready_when rows same a p all x y both h =
+  pub ready_when : (a : ℕ) → a < n → ((x : ℕ) → x < n → mutual_in table a x ≡ true → row_ok table marks a (out x) ≡ true) → IsReady out standing a
+  ready_when a p all x y both h =
       let q = reached_inside a x p both.0 in
       let low = ends x y h in
-      let row = passes (mutual_in table a x) (row_ok table marks a (rows x)) (all x q) (mutual_made a x p q both) in
-      let P : (ℕ → List ℕ) → Type 0 = λ f. Contains (f x) y in
-      let ok = row_each table marks a (rows x) row y (subst P (sym same) h) in
+      let ok = row_each table marks a (out x) (all x q (mutual_made a x p q both)) y h in
       elim (or_true (get_or marks y false) (mutual_in table a y) ok) [
         | inl is ↦ inl ((says.exact y low).0 is)
         | inr is ↦ inr (mutual_means a y p low is)
       ]
 
-  pub unready_when : (a x : ℕ) → a < n → x < n → (not (mutual_in table a x) || row_ok table marks a (out x)) ≡ false → IsReady out standing a → ⊥
-  unready_when a x p q h ready =
-      let bad = fails (mutual_in table a x) (row_ok table marks a (out x)) h in
-      let (y, k, e) = row_fails table marks a (out x) bad.1 in
+  pub unready_when : (a x : ℕ) → a < n → x < n → mutual_in table a x ≡ true → row_ok table marks a (out x) ≡ false → IsReady out standing a → ⊥
+  unready_when a x p q both h ready =
+      let (y, k, e) = row_fails table marks a (out x) h in
       let low = ends x y k in
       let parts = or_false (get_or marks y false) (mutual_in table a y) e in
-      elim (ready x y (mutual_means a x p q bad.0) k) [
+      elim (ready x y (mutual_means a x p q both) k) [
         | inl is ↦ let marked = (says.exact y low).1 is in let off = parts.0 in cc (marked, off)
         | inr is ↦ let made = mutual_made a y p low is in let off = parts.1 in cc (made, off)
       ]

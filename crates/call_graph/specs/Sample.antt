@@ -1,6 +1,5 @@
 -- A small program: two functions that call each other and that main does not reach, and one that main and itself call.
 use Rattle.std.specs.Prelude.{ℕ, List, [], ◌∷◌, Some, None, pos}
-use Rattle.gimple_ir.specs.declared.block.Block.{Block}
 use Rattle.gimple_ir.specs.declared.block.End.TheVariants.{Goto, Return}
 use Rattle.gimple_ir.specs.declared.operand.Operand.TheVariants.{Number}
 use Rattle.gimple_ir.specs.declared.program.Function.{Function}

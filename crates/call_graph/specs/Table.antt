@@ -1,5 +1,5 @@
 -- A table of what each node reaches, and marks of the nodes that stand.
-use Rattle.std.specs.Prelude.{◌≡◌, ◌↔◌, ℕ, ◌<◌, ◌||◌, ◌&&◌, not, Bool, true, false, List, [], ◌∷◌, ◌++◌, length, Contains, slice_index_or, slice_set, map, Vec}
+use Rattle.std.specs.Prelude.{◌≡◌, ◌↔◌, ℕ, ◌<◌, ◌||◌, ◌&&◌, Bool, true, false, List, [], ◌∷◌, ◌++◌, length, Contains, slice_index_or, slice_set, map, Vec}
 use Rattle.std.specs.declared.alloc.Global.{Global}
 use Rattle.call_graph.specs.Graph.{AreMarks}
 use Rattle.call_graph.specs.Walk.{row_at}
@@ -22,10 +22,6 @@ abbrev pub row_ok : List (Vec Bool Global) → List Bool → ℕ → List ℕ �
 row_ok table standing a [] = true
 row_ok table standing a (y ∷ ys) = target_ok table standing a y && row_ok table standing a ys
 
--- the node is not in the component of a, or its targets are right
-abbrev pub node_ok : List (Vec ℕ Global) → List (Vec Bool Global) → List Bool → ℕ → ℕ → Bool
-node_ok rows table standing a x = not (mutual_in table a x) || row_ok table standing a (row_at rows x)
-
 abbrev pub pushed_if : Bool → ℕ → List ℕ → List ℕ
 pushed_if true m xs = xs ++ m ∷ []
 pushed_if false m xs = xs
@@ -43,3 +39,8 @@ flat (c ∷ cs) = c ++ flat cs
 pub record SayStanding (n : ℕ) (standing : List ℕ) (marks : List Bool) : Type 0 where
   pub one_each : length marks ≡ n
   pub exact : (a : ℕ) → a < n → (slice_index_or marks a false ≡ true) ↔ Contains standing a
+
+-- each node's component, by the table
+pub record AreComponents (table : List (Vec Bool Global)) (components : List (Vec ℕ Global)) : Type 0 where
+  pub one_each : length components ≡ length table
+  pub exact : (a m : ℕ) → a < length table → Contains (row_at components a) m ↔ ((m < length table) × (mutual_in table a m ≡ true))

@@ -4,7 +4,7 @@ ghost use Rattle.std.specs.Prelude.{◌≡◌, ℕ, ◌<◌, ◌↔◌, ◌^◌,
 ghost use Rattle.gimple_core.specs.Size.{size_of_program};
 ghost use Rattle.call_graph.specs.Calls.{callees_of};
 ghost use Rattle.call_graph.specs.Graph.{IsOrder, IsAscending, IsReady, IsNext, OrderIsOne};
-ghost use Rattle.call_graph.specs.Table.{marks_at, IsTable, SayStanding, mutual_in, target_ok, row_ok, node_ok, pushed_if, stood};
+ghost use Rattle.call_graph.specs.Table.{marks_at, IsTable, AreComponents, SayStanding, mutual_in, target_ok, row_ok, pushed_if, stood};
 ghost use Rattle.call_graph.specs.Walk.{row_at};
 
 use crate::rows::callees;
@@ -88,35 +88,26 @@ fn row_is_ok(table: &[Vec<bool>], standing: &[bool], a: u32, row: &[u32]) -> boo
     true
 }
 
-fn node_is_ok(rows: &[Vec<u32>], table: &[Vec<bool>], standing: &[bool], a: u32, x: u32) -> bool
+/// Whether the component of `a`, which has these members, is ready.
+fn is_ready(
+    rows: &[Vec<u32>],
+    table: &[Vec<bool>],
+    standing: &[bool],
+    a: u32,
+    members: &[u32],
+) -> bool
     requires few { length table.now < 2 ^ 32 }
     requires rows { length rows.now ≡ length table.now }
     requires len { (k : ℕ) → k < length table.now → length (marks_at table.now k) ≡ length table.now }
     requires standing { length standing.now ≡ length table.now }
     requires ends { (x b : ℕ) → Contains (row_at rows.now x) b → b < length table.now }
     requires a { a < length table.now }
-    requires x { x < length table.now }
-    ensures { result ≡ node_ok rows.now table.now standing.now a x }
+    requires members { (m : ℕ) → Contains members.now m → m < length table.now }
+    ensures is { result ≡ true → (x : ℕ) → Contains members.now x → row_ok table.now standing.now a (row_at rows.now x) ≡ true }
+    ensures not { result ≡ false → (x : ℕ) × Contains members.now x × (row_ok table.now standing.now a (row_at rows.now x) ≡ false) }
 {
-    if !are_mutual(table, a, x) {
-        return true;
-    }
-    row_is_ok(table, standing, a, rows[x as usize].as_slice())
-}
-
-/// Whether the component of `a` is ready.
-fn is_ready(rows: &[Vec<u32>], table: &[Vec<bool>], standing: &[bool], a: u32) -> bool
-    requires few { length table.now < 2 ^ 32 }
-    requires rows { length rows.now ≡ length table.now }
-    requires len { (k : ℕ) → k < length table.now → length (marks_at table.now k) ≡ length table.now }
-    requires standing { length standing.now ≡ length table.now }
-    requires ends { (x b : ℕ) → Contains (row_at rows.now x) b → b < length table.now }
-    requires a { a < length table.now }
-    ensures is { result ≡ true → (x : ℕ) → x < length table.now → node_ok rows.now table.now standing.now a x ≡ true }
-    ensures not { result ≡ false → (x : ℕ) × (x < length table.now) × (node_ok rows.now table.now standing.now a x ≡ false) }
-{
-    for x in 0..table.len() {
-        if !node_is_ok(rows, table, standing, a, x as u32) {
+    for x in members {
+        if !row_is_ok(table, standing, a, rows[*x as usize].as_slice()) {
             return false;
         }
     }
@@ -124,10 +115,17 @@ fn is_ready(rows: &[Vec<u32>], table: &[Vec<bool>], standing: &[bool], a: u32) -
 }
 
 /// Whether `a` does not stand and its component is ready.
-fn is_candidate(rows: &[Vec<u32>], table: &[Vec<bool>], standing: &[bool], a: u32) -> bool
+fn is_candidate(
+    rows: &[Vec<u32>],
+    table: &[Vec<bool>],
+    components: &[Vec<u32>],
+    standing: &[bool],
+    a: u32,
+) -> bool
     requires few { length table.now < 2 ^ 32 }
     requires rows { length rows.now ≡ length table.now }
     requires tells { IsTable (row_at rows.now) (length table.now) table.now }
+    requires components { AreComponents table.now components.now }
     requires standing { length standing.now ≡ length table.now }
     requires ends { (x b : ℕ) → Contains (row_at rows.now x) b → b < length table.now }
     requires a { a < length table.now }
@@ -137,21 +135,27 @@ fn is_candidate(rows: &[Vec<u32>], table: &[Vec<bool>], standing: &[bool], a: u3
     if standing[a as usize] {
         return false;
     }
-    is_ready(rows, table, standing, a)
+    is_ready(rows, table, standing, a, components[a as usize].as_slice())
 }
 
 /// The least node that does not stand and whose class is ready.
-fn next_ready(rows: &[Vec<u32>], table: &[Vec<bool>], standing: &[bool]) -> Option<u32>
+fn next_ready(
+    rows: &[Vec<u32>],
+    table: &[Vec<bool>],
+    components: &[Vec<u32>],
+    standing: &[bool],
+) -> Option<u32>
     requires few { length table.now < 2 ^ 32 }
     requires rows { length rows.now ≡ length table.now }
     requires tells { IsTable (row_at rows.now) (length table.now) table.now }
+    requires components { AreComponents table.now components.now }
     requires standing { length standing.now ≡ length table.now }
     requires ends { (x b : ℕ) → Contains (row_at rows.now x) b → b < length table.now }
     ensures some { IfSome result (λ a. (s : List ℕ) → SayStanding (length table.now) s standing.now → IsNext (row_at rows.now) (length table.now) s a) }
     ensures none { IfNone result ((s : List ℕ) → SayStanding (length table.now) s standing.now → (a : ℕ) → a < length table.now → Contains s a) }
 {
     for a in 0..table.len() {
-        if is_candidate(rows, table, standing, a as u32) {
+        if is_candidate(rows, table, components, standing, a as u32) {
             return Some(a as u32);
         }
     }
@@ -183,6 +187,20 @@ fn component_of(alloc: Heap, table: &[Vec<bool>], a: u32) -> Result<Vec<u32>, Ou
     Ok(members)
 }
 
+/// The component of each node.
+fn components_in(alloc: Heap, table: &[Vec<bool>]) -> Result<Vec<Vec<u32>>, OutOfMemory>
+    requires few { length table.now < 2 ^ 32 }
+    requires len { (k : ℕ) → k < length table.now → length (marks_at table.now k) ≡ length table.now }
+    ensures { IfOk result (λ components. AreComponents table.now components.items) }
+{
+    let mut components = Vec::new(alloc);
+    for a in 0..table.len() {
+        let members = component_of(alloc, table, a as u32)?;
+        components.push(members)?;
+    }
+    Ok(components)
+}
+
 /// The members stand.
 fn stand_all(standing: &mut Vec<bool>, members: &[u32])
     requires { (b : ℕ) → Contains members.now b → b < length standing.old.items }
@@ -200,9 +218,10 @@ fn order_of(alloc: Heap, rows: &[Vec<u32>], table: &[Vec<bool>]) -> Result<Order
     requires ends { (x b : ℕ) → Contains (row_at rows.now x) b → b < length table.now }
     ensures { IfOk result (IsOrder (row_at rows.now) (length table.now)) }
 {
+    let components = components_in(alloc, table)?;
     let mut standing = all_false(alloc, table.len())?;
     let mut order = Order::new(alloc);
-    while let Some(a) = next_ready(rows, table, standing.as_slice()) {
+    while let Some(a) = next_ready(rows, table, components.as_slice(), standing.as_slice()) {
         let members = component_of(alloc, table, a)?;
         stand_all(&mut standing, members.as_slice());
         order.push(Numbers::from_vec(members))?;
