@@ -20,3 +20,4 @@ pub mod Lost
 pub mod TypedValues
 pub mod TypedStmts
 pub mod Typed
+pub mod Settled

@@ -1,18 +1,20 @@
 -- What holds of each state that comes up in a run.
-use Rattle.std.specs.Prelude.{◌≡◌, ◌<◌, ℕ, ◌==◌, ◌++◌, ℤ, Bool, true, List, [], ◌∷◌, map, filter, find, slice_get, Some}
+use Rattle.std.specs.Prelude.{◌≡◌, ◌<◌, ◌+◌, ℕ, ◌==◌, ◌++◌, ℤ, Bool, true, List, [], ◌∷◌, map, filter, find, slice_get, Some}
 use Rattle.std.specs.List.{list_any, list_all}
 use Rattle.gimple_ir.specs.declared.scalar.Scalar.{Scalar}
 use Rattle.gimple_ir.specs.declared.declarations.Global.{Global as GlobalDef}
 use Rattle.gimple_ir.specs.declared.declarations.Register.{Register}
 use Rattle.gimple_ir.specs.declared.value.Object.{Object}
 use Rattle.gimple_ir.specs.declared.value.Object.TheVariants.{Global, Local}
+use Rattle.gimple_ir.specs.declared.value.Outcome.{Outcome}
+use Rattle.gimple_ir.specs.declared.value.Outcome.TheVariants.{Going, Ended, Trapped}
 use Rattle.gimple_ir.specs.declared.program.Program.{Program}
 use Rattle.gimple_core.specs.declared.machine.Cell.{Cell}
 use Rattle.gimple_core.specs.declared.machine.MemorySlot.{MemorySlot}
 use Rattle.gimple_core.specs.Memory.{Memory, same_object}
 use Rattle.gimple_core.specs.State.{Control, Frame, State}
 use Rattle.gimple_core.specs.Layout.{layout_of}
-use Rattle.gimple_core.specs.Run.{filled, item_value}
+use Rattle.gimple_core.specs.Run.{filled, item_value, Run}
 use Rattle.gimple_core.specs.Trace.{Event, Entry, At, Load, Store, Leave}
 use Rattle.gimple_claims.specs.Runs.{Comes}
 use Rattle.gimple_claims.specs.Bodies.{EachOf}
@@ -96,3 +98,15 @@ pub record StateHasRegisters (s : State) : Type 0 where
 -- each frame has the registers of its function
 abbrev pub RegistersAreDeclared : Type 0
 RegistersAreDeclared = (p : Program) (input : List ℤ) (past : List Event) (s : State) → Comes p input past s → StateHasRegisters s
+
+-- ---- outcomes
+
+-- the run has ended or trapped
+abbrev pub IsSettled : Outcome → Type 0
+IsSettled (Going output) = ⊥
+IsSettled (Ended output status) = Unit {0}
+IsSettled (Trapped output kind) = Unit {0}
+
+-- more transfers change nothing then
+abbrev pub SettledRunsStay : Type 0
+SettledRunsStay = (p : Program) (input : List ℤ) (n m : ℕ) → IsSettled (Run p input n) → Run p input (n + m) ≡ Run p input n

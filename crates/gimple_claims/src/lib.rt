@@ -2,7 +2,7 @@
 #![tactic(auto)]
 
 ghost use Rattle.gimple_claims.specs.Checks.{FunctionsAreChecked, NothingIsLost};
-ghost use Rattle.gimple_claims.specs.Laws.{SerialsGrow, FramesAreLiveCalls, LivingAreOfFrames, GlobalsHold, RegistersAreDeclared};
+ghost use Rattle.gimple_claims.specs.Laws.{SerialsGrow, FramesAreLiveCalls, LivingAreOfFrames, GlobalsHold, RegistersAreDeclared, SettledRunsStay};
 ghost use Rattle.gimple_claims.specs.Typed.{ValuesAreTyped};
 
 /// Each frame and each event so far has a serial below the next one.
@@ -46,4 +46,9 @@ pub fn nothing_is_lost()
 /// its scalar.
 pub fn values_are_typed()
     ensures { ValuesAreTyped }
+{}
+
+/// A run that has ended or trapped comes to the same with more transfers.
+pub fn settled_runs_stay()
+    ensures { SettledRunsStay }
 {}
