@@ -78,8 +78,8 @@ unfolding s.arith s.right_side
 arith_so env scalar left op right h = by (s.is_pointer scalar) (s.is_shift op) h
   where
     by : (a b : Bool)
-      → (if a then and_then (demand (s.is_add op) 4) (λ _. and_then (s.operand env 4 Ptr left) (λ _. s.operand env 4 I64 right)) else and_then (s.operand env 4 scalar left) (λ _. if b then s.count env scalar right else s.operand env 4 scalar right)) ≡ Ok tt
-      → (a ≡ true → (s.is_add op ≡ true) × HasScalar env Ptr left × HasScalar env I64 right) × (a ≡ false → HasScalar env scalar left × (b ≡ true → IsCount env scalar right) × (b ≡ false → HasScalar env scalar right))
+        → (if a then and_then (demand (s.is_add op) 4) (λ _. and_then (s.operand env 4 Ptr left) (λ _. s.operand env 4 I64 right)) else and_then (s.operand env 4 scalar left) (λ _. if b then s.count env scalar right else s.operand env 4 scalar right)) ≡ Ok tt
+        → (a ≡ true → (s.is_add op ≡ true) × HasScalar env Ptr left × HasScalar env I64 right) × (a ≡ false → HasScalar env scalar left × (b ≡ true → IsCount env scalar right) × (b ≡ false → HasScalar env scalar right))
     by true b k =
         let p = first_passed (demand (s.is_add op) 4) _ tt k in
         let q = first_passed (s.operand env 4 Ptr left) _ tt p.2 in

@@ -144,9 +144,9 @@ main_so number [] h = absurd (err_no h)
 main_so number (f ∷ fs) h = by (bytes_eq main_name f.name) (same_name f.name main_name) (same_test main_name f.name) (main_so (number + 1) fs) h
   where
     by : (a b : Bool) → a ≡ b
-      → (d.main (number + 1) fs ≡ Ok tt → (g : Function) × (function_named main_name fs ≡ Some g) × (g.params ≡ []) × (g.result ≡ Some I32))
-      → (if a then at (site.Statement number 0) (demand (d.is_main f.params f.result) 3) else d.main (number + 1) fs) ≡ Ok tt
-      → (g : Function) × ((if b then Some f else function_named main_name fs) ≡ Some g) × (g.params ≡ []) × (g.result ≡ Some I32)
+        → (d.main (number + 1) fs ≡ Ok tt → (g : Function) × (function_named main_name fs ≡ Some g) × (g.params ≡ []) × (g.result ≡ Some I32))
+        → (if a then at (site.Statement number 0) (demand (d.is_main f.params f.result) 3) else d.main (number + 1) fs) ≡ Ok tt
+        → (g : Function) × ((if b then Some f else function_named main_name fs) ≡ Some g) × (g.params ≡ []) × (g.result ≡ Some I32)
     by true true e more k = let m = main_is f.params f.result (demanded _ 3 (at_passed _ (demand (d.is_main f.params f.result) 3) tt k)) in (f, refl, m.0, m.1)
     by false false e more k = more k
     by true false e more k = cc
@@ -162,10 +162,11 @@ functions_so p number (f ∷ fs) u h =
     let callees = functions_by_name p.functions in
     let a = first_passed (d.one_function known callees number f) _ tt h in
     let b = first_passed (at _ (d.own known callees f)) _ tt a.1 in
-    let e = own_is known b.0 callees f (at_passed _ (d.own known callees f) b.0 b.1) in
-    (sym (named_find (λ g. g.name) f.name p.functions) ∙ u.0,
+    let e = own_is known b.0 callees f (at_passed _ (d.own known callees f) b.0 b.1) in (
+      sym (named_find (λ g. g.name) f.name p.functions) ∙ u.0,
       subst (λ (env : Env). BlocksTyped env callees f.blocks) e (blocks_so b.0 callees number 1 f.blocks b.2),
-      functions_so p (number + 1) fs u.1 a.2)
+      functions_so p (number + 1) fs u.1 a.2,
+    )
 
 -- a program without a type fault is typed
 pub accepted_typed : AcceptedTyped

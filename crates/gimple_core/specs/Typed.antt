@@ -50,7 +50,7 @@ IsCount env scalar x = HasScalar env scalar x
 abbrev pub ArithTyped : Env → Scalar → Operand → Op → Operand → Type 0
 ArithTyped env scalar left op right =
     (is_pointer scalar ≡ true → (is_add op ≡ true) × HasScalar env Ptr left × HasScalar env I64 right)
-  × (is_pointer scalar ≡ false → HasScalar env scalar left × (is_shift op ≡ true → IsCount env scalar right) × (is_shift op ≡ false → HasScalar env scalar right))
+    × (is_pointer scalar ≡ false → HasScalar env scalar left × (is_shift op ≡ true → IsCount env scalar right) × (is_shift op ≡ false → HasScalar env scalar right))
 
 -- both sides have one scalar, and pointers are compared by `==` and `!=` alone
 abbrev pub ComparedTyped : Env → Operand → Cmp → Operand → Type 0
