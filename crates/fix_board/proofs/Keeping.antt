@@ -161,30 +161,14 @@ ready_dirty : (dirty few : Bool) → (dirty && few) ≡ true → dirty ≡ true
 ready_dirty true few h = refl
 ready_dirty false few h = h
 
-not_ready : (dirty : Bool) (n : ℕ) → n ≡ 0 → (dirty && nat_lt n 4294967295) ≡ false → dirty ≡ false
-not_ready false n z h = refl
-not_ready true n z h = let P : ℕ → Type 0 = λ i. nat_lt i 4294967295 ≡ false in subst P z h
-
 -- what holds of the value holds of it with what follows from it
 some_map_3 : {A : Type 0} (o : Option A) (P Q R S : A → Type 0) → IsSomeAnd o P → IsSomeAnd o Q → IsSomeAnd o R → ((x : A) → P x → Q x → R x → S x) → IsSomeAnd o S
 some_map_3 None P Q R S p q r f = p
 some_map_3 (Some x) P Q R S p q r f = f x p q r
 
-some_map : {A : Type 0} (o : Option A) (P Q : A → Type 0) → IsSomeAnd o P → ((x : A) → P x → Q x) → IsSomeAnd o Q
-some_map None P Q h f = h
-some_map (Some x) P Q h f = f x h
-
 module _ {V : Type 0} {fits : List ℕ → V → Type 0} {height : List ℕ → ℕ} {rank : List ℕ → V → ℕ} {below : V → V → Bool} {joined : V → V → V}
     (lat : LatticeLaws fits height rank below joined) (k : List ℕ) (o : Option (Equations V)) (b : State V) (sources targets : List ℕ)
     (board : IsSomeAnd o (λ s. IsBoard (fits k) below s b sources targets)) where
-  pub board_take : (e : ℕ) → e < length b.dirty → IsSomeAnd o (λ s. IsBoard (fits k) below s (after_take b e) sources targets)
-  board_take e is_edge = some_map o (λ s. IsBoard (fits k) below s b sources targets) (λ s. IsBoard (fits k) below s (after_take b e) sources targets) board (λ s w.
-      record { laws = w.laws; sources_are = w.sources_are; targets_are = w.targets_are; kept = take_kept lat k s w.laws b w.kept e (omega (arith, is_edge, w.kept.dirty_each)) })
-
-  pub board_back : (e : ℕ) → e < length b.dirty → IsSomeAnd o (λ s. IsBoard (fits k) below s (after_back b e) sources targets)
-  board_back e is_edge = some_map o (λ s. IsBoard (fits k) below s b sources targets) (λ s. IsBoard (fits k) below s (after_back b e) sources targets) board (λ s w.
-      record { laws = w.laws; sources_are = w.sources_are; targets_are = w.targets_are; kept = back_kept lat k s w.laws b w.kept e (omega (arith, is_edge, w.kept.dirty_each)) })
-
   pub board_post : (e : ℕ) (from : V) (new : State V) → IsSomeAnd o (λ s. CanPost (fits k) below s b e from)
       → IsSomeAnd o (λ s. Posts below joined s b e from new) → IsSomeAnd o (λ s. IsBoard (fits k) below s new sources targets)
   board_post e from new can posts =
@@ -303,14 +287,6 @@ may_last {V} {fits} {height} {rank} {below} {joined} lat k (Some s) b sources ta
         ]
       ],
     )
-
--- where nothing is ready and nothing is out, the board is done
-pub done_when_none : {V : Type 0} {fits : List ℕ → V → Type 0} {height : List ℕ → ℕ} {rank : List ℕ → V → ℕ} {below : V → V → Bool} {joined : V → V → V}
-    (lat : LatticeLaws fits height rank below joined) (k : List ℕ) (s : Equations V) (flow : FlowLaws (fits k) below s) (b : State V)
-    → IsKept (fits k) below s b → AreHome b s.edges → ((d : ℕ) → d < length b.dirty → is_ready b.dirty b.out d ≡ false) → IsDone (fits k) below s b
-done_when_none lat k s flow b kept home none =
-    let clean : (e : ℕ) → e < s.edges → is_dirty b e ≡ false = λ e h. not_ready (is_dirty b e) (times_out b e) (home e h) (none e (omega (arith, h, kept.dirty_each))) in
-    record { clean = clean; least = least_when_done lat k s flow b kept clean home }
 
 module _ {V : Type 0} {fits : List ℕ → V → Type 0} {height : List ℕ → ℕ} {rank : List ℕ → V → ℕ} {below : V → V → Bool} {joined : V → V → V}
     (lat : LatticeLaws fits height rank below joined) (k : List ℕ) (s : Equations V) (flow : FlowLaws (fits k) below s)

@@ -136,9 +136,11 @@ impl<V: Lattice, K: System<V>> Board<V, K> {
 /// What a worker does in one critical section.
 impl<V: Lattice, K: System<V>> Board<V, K> {
     /// An edge that was taken, and a copy of its source's value.
-    pub fn take_copy(&mut self) -> Result<Option<(u32, V)>, OutOfMemory>
+    pub(crate) fn take_copy(&mut self) -> Result<Option<(u32, V)>, OutOfMemory>
         ensures edge { IfOk result (λ taken. IfSome taken (λ t. IsSomeAnd K.equations (λ s. t.0 < s.edges))) }
         ensures fits { IfOk result (λ taken. IfSome taken (λ t. V.fits K.kind t.1)) }
+        ensures taken { IfOk result (λ taken. IfSome taken (λ t. self.new ≡ after_take self.old t.0)) }
+        ensures none { IfOk result (λ taken. IfNone taken (self.new ≡ self.old)) }
     {
         let Some(edge) = self.take() else {
             return Ok(None);
@@ -153,7 +155,7 @@ impl<V: Lattice, K: System<V>> Board<V, K> {
     }
 
     /// Posts what was found, or gives the edge back where it may not be posted.
-    pub fn post_or_back(&mut self, edge: u32, from: &V, found: V) -> Result<(), OutOfMemory>
+    pub(crate) fn post_or_back(&mut self, edge: u32, from: &V, found: V) -> Result<(), OutOfMemory>
         requires edge { IsSomeAnd K.equations (λ s. edge < s.edges) }
         requires fits { V.fits K.kind from.now }
         requires found { IsSomeAnd K.equations (λ s. found ≡ s.flow edge from.now) }
@@ -166,8 +168,10 @@ impl<V: Lattice, K: System<V>> Board<V, K> {
     }
 
     /// Gives the edge back if it is out.
-    pub fn back_if_out(&mut self, edge: u32)
+    pub(crate) fn back_if_out(&mut self, edge: u32)
         requires { IsSomeAnd K.equations (λ s. edge < s.edges) }
+        ensures out { 0 < times_out self.old edge → self.new ≡ after_back self.old edge }
+        ensures home { times_out self.old edge ≡ 0 → self.new ≡ self.old }
     {
         if self.is_out(edge) {
             self.give_back(edge);
@@ -178,7 +182,7 @@ impl<V: Lattice, K: System<V>> Board<V, K> {
 /// What the caller does after the workers.
 impl<V: Lattice, K: System<V>> Board<V, K> {
     /// What holds of every board.
-    pub fn known(&self)
+    pub(crate) fn known(&self)
         ensures { IsSomeAnd K.equations (λ s. IsKept (V.fits K.kind) V.below s self.now) }
     {
         let _values = &self.values;
