@@ -102,14 +102,14 @@ not_true : (a : Bool) → not a ≡ true → a ≡ false
 not_true true h = cc
 not_true false h = refl
 
-same_is : {X : Type 0} (lt : X → X → Bool) → IsOrder lt → (c x : X) → same_by lt c x ≡ true → c ≡ x
+pub same_is : {X : Type 0} (lt : X → X → Bool) → IsOrder lt → (c x : X) → same_by lt c x ≡ true → c ≡ x
 same_is lt o c x h = let e = two _ _ h in o.total c x (not_true _ e.0) (not_true _ e.1)
 
-has_is : {X : Type 0} (lt : X → X → Bool) → IsOrder lt → (c : X) (xs : List X) → has_by lt c xs ≡ true → Has c xs
+pub has_is : {X : Type 0} (lt : X → X → Bool) → IsOrder lt → (c : X) (xs : List X) → has_by lt c xs ≡ true → Has c xs
 has_is lt o c [] h = cc
 has_is lt o c (x ∷ xs) h = elim (either _ _ h) [ inl e ↦ inl (same_is lt o c x e) | inr k ↦ inr (has_is lt o c xs k) ]
 
-is_has : {X : Type 0} (lt : X → X → Bool) → IsOrder lt → (c : X) (xs : List X) → Has c xs → has_by lt c xs ≡ true
+pub is_has : {X : Type 0} (lt : X → X → Bool) → IsOrder lt → (c : X) (xs : List X) → Has c xs → has_by lt c xs ≡ true
 is_has lt o c [] h = absurd h
 is_has lt o c (x ∷ xs) (inl e) = subst (λ y. (same_by lt c y || has_by lt c xs) ≡ true) e (rw (o.apart c) refl)
 is_has lt o c (x ∷ xs) (inr h) = or_right (same_by lt c x) (has_by lt c xs) (is_has lt o c xs h)

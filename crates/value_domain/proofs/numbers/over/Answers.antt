@@ -1,0 +1,12 @@
+use Rattle.std.proofs.Common.{int_div, FitsSigned}
+use Rattle.std.specs.Int.{w128}
+use Rattle.std.proofs.lemmas.Int.{to_z-of_z}
+use Rattle.gimple_core.proofs.NumberLemmas.{quotient_fits}
+use Rattle.value_domain.proofs.numbers.over.Goals as goal
+
+pub returns : goal.returns
+returns c =
+    let a : FitsSigned w128 c.args.left = c.ranges.left in
+    let b : FitsSigned w128 c.args.right = c.ranges.right in
+    let x : FitsSigned w128 (int_div c.args.left c.args.right) = quotient_fits _ _ c.requires in
+    simp to_z-of_z
