@@ -1,0 +1,5 @@
+pub mod TableLemmas
+pub mod SizeLemmas
+pub mod StructLemmas
+pub mod CountLemmas
+pub mod NameLemmas
