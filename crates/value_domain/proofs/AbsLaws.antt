@@ -1,40 +1,36 @@
 -- The laws of the operators on all values of their scalars.
-use Rattle.std.proofs.Common.{cond, ◌≡◌, ℕ, zero, suc, ◌+◌, ◌^◌, ◌<◌, ◌≤◌, ℤ, pos, negsuc, ◌+ℤ◌, ◌≤ℤ◌, ◌<ℤ◌, ◌⊎◌, inl, inr, Bool, true, false, not, ◌&&◌, refl, sym, ◌∙◌, ap, subst, arith, List, [], ◌∷◌, Option, Some, None, Result, Ok, Err}
+use Rattle.std.proofs.Common.{cond, ◌≡◌, ℕ, ℤ, pos, ◌+ℤ◌, ◌⊎◌, inl, inr, Bool, true, false, refl, sym, ◌∙◌, ap, subst, arith, List, Some, None, Result, Ok}
 use Rattle.std.proofs.lemmas.Int.{ints}
 use Rattle.gimple_ir.specs.declared.scalar.Scalar.{Scalar}
 use Rattle.gimple_ir.specs.declared.scalar.Scalar.TheVariants.{I8, I16, I32, I64, U8, U16, U32, U64, Ptr}
 use Rattle.gimple_ir.specs.declared.scalar.Op.{Op}
 use Rattle.gimple_ir.specs.declared.scalar.Op.TheVariants.{Add}
-use Rattle.gimple_ir.specs.declared.scalar.Cmp.{Cmp}
 use Rattle.gimple_ir.specs.declared.value.TrapKind.{TrapKind}
 use Rattle.gimple_ir.specs.declared.value.Value.{Value}
 use Rattle.gimple_ir.specs.declared.value.Value.TheVariants.{Int as Number, Null as NullPointer, At}
-use Rattle.gimple_ir.specs.declared.value.Object.{Object}
 use Rattle.gimple_ir.specs.declared.value.Object.TheVariants.{Global as GlobalObject, Local as LocalObject}
 use Rattle.gimple_ir.specs.declared.value.Constant.{Constant}
 use Rattle.gimple_ir.specs.declared.value.Constant.TheVariants.{Int, Null, Global}
 use Rattle.gimple_core.specs.Operators.{in_scalar, wrapped}
 use Rattle.gimple_core.specs.Memory.{moved_by}
-use Rattle.gimple_core.specs.Run.{arith_of, any_number, compares, one_if, converted}
-use Rattle.value_domain.specs.declared.bits.Bits.{Bits}
-use Rattle.value_domain.specs.declared.range.Range.{Range}
+use Rattle.gimple_core.specs.Run.{arith_of, any_number, compares, one_if}
 use Rattle.value_domain.specs.declared.vals.Vals.{Vals}
 use Rattle.value_domain.specs.declared.abs_val.AbsVal.{AbsVal}
-use Rattle.value_domain.specs.Bitmasks.{pattern, Agrees, AreBelow}
-use Rattle.value_domain.specs.Ranges.{InRange, InEach, Within, WithinEach, FitsRange}
+use Rattle.value_domain.specs.Bitmasks.{pattern}
+use Rattle.value_domain.specs.Ranges.{InRange, Within, FitsRange}
 use Rattle.value_domain.specs.BitOperators.{unknown_bits, converted_bits}
 use Rattle.value_domain.specs.RangeOperators.{rounded, convert_range}
 use Rattle.value_domain.specs.ConstantOperators.{is_pointer, constant_in, moved_constant, op_constant, cmp_constant, convert_constant, pairs_vals, mapped_vals}
-use Rattle.value_domain.specs.AbsOperators.{assembled, unless_none, span_of, zero_range, bits_under, range_under, bits_compared, range_compared, abs_op_of, abs_cmp_of, abs_convert_of}
+use Rattle.value_domain.specs.AbsOperators.{assembled, zero_range, bits_under, range_under, bits_compared, range_compared, abs_op_of, abs_cmp_of, abs_convert_of}
 use Rattle.value_domain.specs.Values.{none_val, is_none_val, FitsVals, FitsWith, abs_val_below}
 use Rattle.value_domain.specs.ValueLemmas.{abs_apart}
 use Rattle.value_domain.specs.Thresholds.{IsLawful}
-use Rattle.value_domain.specs.Holding.{Holds, IsAmong, constant_of, number_part, value_of_scalar, mask_width, ValsOf, PartsOf, IsOf, IsRight, IsAllowed}
+use Rattle.value_domain.specs.Holding.{Holds, IsAmong, constant_of, number_part, value_of_scalar, IsOf, IsAllowed}
 use Rattle.value_domain.specs.Laws.{OpHolds, OpRises, OpFits, CmpHolds, CmpRises, CmpFits, ConvertHolds, ConvertRises, ConvertFits}
 use Rattle.value_domain.proofs.BitSoundness.{unknown_holds}
 use Rattle.value_domain.proofs.BitOrder.{below_unknown}
 use Rattle.value_domain.proofs.ValsLaws.{pairs_hold, none_left, pairs_fit, pairs_of, pairs_rise}
-use Rattle.value_domain.proofs.WholeLemmas.{number_value, ProperOf, proper_of, none_holds, assembled_holds, unless_proper, GoodParts, IsGood, none_good, assembled_good, unless_good, PartsBelow, parts_below_is, none_below, assembled_rises, unless_rises}
+use Rattle.value_domain.proofs.WholeLemmas.{number_value, ProperOf, proper_of, none_holds, assembled_holds, unless_proper, IsGood, none_good, assembled_good, unless_good, PartsBelow, parts_below_is, assembled_rises, unless_rises}
 use Rattle.value_domain.proofs.OperatorLaws.{any_is, int_holds, int_good, int_rises}
 use Rattle.value_domain.proofs.CompareLaws.{cmp_good, cmp_int_holds, cmp_ptr_holds, cmp_rises, convert_good, convert_holds, convert_rises}
 use Rattle.value_domain.proofs.CodeLemmas.{right_int}

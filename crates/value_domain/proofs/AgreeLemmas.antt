@@ -1,19 +1,19 @@
 -- What it means, bit by bit, that known bits are those of a number.
-use Rattle.std.proofs.Common.{cond, ◌≡◌, ℕ, zero, suc, ◌+◌, ◌*◌, ◌/◌, ◌%◌, ◌^◌, ◌-◌, ◌<◌, ◌≤◌, min, max, ℤ, pos, negsuc, ◌≤ℤ◌, ◌<ℤ◌, ◌⊎◌, inl, inr, Bool, true, false, refl, sym, ◌∙◌, ap, subst, arith, bit_and, bit_or, bit_xor}
+use Rattle.std.proofs.Common.{◌≡◌, ℕ, ◌-◌, ◌<◌, ◌≤◌, min, ℤ, ◌⊎◌, inl, inr, Bool, true, false, refl, sym, ◌∙◌, ap, arith, bit_and}
 use Rattle.std.specs.Int.{bit_at}
 use Rattle.std.proofs.lemmas.Bool.{cases_lt}
 use Rattle.std.proofs.lemmas.Nat.{and_le_r}
-use Rattle.std.proofs.lemmas.Nat.Bits.{bit_at_and, bit_at_or, bit_at_xor, bit_at-lt, bit_at_above, same_from_bits}
+use Rattle.std.proofs.lemmas.Nat.Bits.{bit_at_and, bit_at_above, same_from_bits}
 use Rattle.gimple_ir.specs.declared.scalar.Scalar.{Scalar}
-use Rattle.gimple_core.specs.Operators.{is_signed, wrapped, of_bits, low_bits, bits_of, modulus_of, half_of}
+use Rattle.gimple_core.specs.Operators.{is_signed, of_bits, low_bits, bits_of, modulus_of}
 use Rattle.value_domain.specs.declared.bits.Bits.{Bits}
 use Rattle.value_domain.specs.Ranges.{InRange}
 use Rattle.value_domain.specs.RangeOperators.{type_range}
 use Rattle.value_domain.specs.Bitmasks.{pattern, Agrees, IsBits, AreBelow}
 use Rattle.value_domain.specs.BitsLemmas.{bit_agrees, bit_below}
 use Rattle.value_domain.specs.BitOperators.{mask_above, value_above}
-use Rattle.value_domain.proofs.ScalarLemmas.{low_below, width_bound, of_bits_in}
-use Rattle.value_domain.proofs.TwosLemmas.{bit_of, bit_of-lt, low_bit, pattern_bit, of_bits_bit, wrapped_bit, zeros_above, signs_above, value_above_bit, mask_above_bit, mask_above_ones, mask_above_sign, value_above_zeros, value_above_sign}
+use Rattle.value_domain.proofs.ScalarLemmas.{width_bound}
+use Rattle.value_domain.proofs.TwosLemmas.{bit_of, low_bit, pattern_bit, of_bits_bit, zeros_above, signs_above, value_above_bit, mask_above_bit, mask_above_ones, mask_above_sign, value_above_zeros, value_above_sign}
 
 -- known bits of a scalar's width
 pub record BitsOf (scalar : Scalar) (b : Bits) : Type 0 where

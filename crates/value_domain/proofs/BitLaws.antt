@@ -1,6 +1,6 @@
 -- What is known of the bits of each operator's result: it holds, is monotone and keeps to the width.
-use Rattle.std.proofs.Common.{cond, ◌≡◌, ℕ, zero, suc, ◌+◌, ◌*◌, ◌%◌, ◌^◌, ◌-◌, ◌<◌, ◌≤◌, ◌==◌, ℤ, pos, negsuc, ◌+ℤ◌, ◌-ℤ◌, ◌*ℤ◌, ◌⊎◌, inl, inr, Bool, true, false, not, ◌&&◌, refl, sym, ◌∙◌, ap, subst, arith, bit_and, bit_or, bit_xor, unsigned_abs, Option, Some, None, Result, Ok, Err, int_div, int_rem}
-use Rattle.std.specs.Int.{w64, int_shr, trailing_ones}
+use Rattle.std.proofs.Common.{cond, ◌≡◌, ℕ, zero, suc, ◌+◌, ◌*◌, ◌%◌, ◌^◌, ◌-◌, ◌<◌, ◌≤◌, ◌==◌, ℤ, pos, ◌+ℤ◌, ◌-ℤ◌, ◌*ℤ◌, Bool, true, false, not, refl, sym, ◌∙◌, ap, subst, arith, bit_and, bit_or, bit_xor, unsigned_abs, Some, Result, int_div, int_rem}
+use Rattle.std.specs.Int.{int_shr}
 use Rattle.std.proofs.lemmas.Nat.{pow_pos}
 use Rattle.std.proofs.Math.Nat.{pow-le-pow_right}
 use Rattle.gimple_ir.specs.declared.scalar.Scalar.{Scalar}
@@ -8,19 +8,19 @@ use Rattle.gimple_ir.specs.declared.scalar.Op.{Op}
 use Rattle.gimple_ir.specs.declared.scalar.Op.TheVariants.{Add, Sub, Mul, Div, Rem, And, Or, Xor, Shl, Shr}
 use Rattle.gimple_ir.specs.declared.value.TrapKind.{TrapKind}
 use Rattle.gimple_ir.specs.declared.value.TrapKind.TheVariants.{Divide, Overflow, Shift}
-use Rattle.gimple_core.specs.Operators.{is_signed, in_scalar, kept, wrapped, of_bits, low_bits, bits_of, modulus_of, is_count, op_of, unless_not}
+use Rattle.gimple_core.specs.Operators.{in_scalar, kept, wrapped, of_bits, low_bits, bits_of, modulus_of, is_count, op_of, unless_not}
 use Rattle.value_domain.specs.declared.bits.Bits.{Bits}
 use Rattle.value_domain.specs.Ranges.{InRange}
 use Rattle.value_domain.specs.Holding.{IsRight}
 use Rattle.value_domain.specs.RangeOperators.{type_range}
-use Rattle.value_domain.specs.Bitmasks.{pattern, Agrees, IsBits, AreBelow}
+use Rattle.value_domain.specs.Bitmasks.{pattern, Agrees, AreBelow}
 use Rattle.value_domain.specs.BitsLemmas.{and_monotone}
-use Rattle.value_domain.specs.BitOperators.{unknown_bits, number_of, low_known, low_exact, low_sum, low_difference, low_product, result_bits, both_known, divided_bits, if_count, shifted_left, shifted_right, op_bits}
-use Rattle.value_domain.proofs.ScalarLemmas.{okay, width_bound, halves}
+use Rattle.value_domain.specs.BitOperators.{unknown_bits, number_of, low_known, low_sum, low_difference, low_product, result_bits, both_known, divided_bits, if_count, shifted_left, shifted_right, op_bits}
+use Rattle.value_domain.proofs.ScalarLemmas.{okay, width_bound}
 use Rattle.value_domain.proofs.AgreeLemmas.{BitsOf, value_short}
 use Rattle.value_domain.proofs.PatternLemmas.{pattern_below, pattern_sum, pattern_difference, pattern_product, lower, sum_mod, product_mod, rest_mod, low_agree}
-use Rattle.value_domain.proofs.BitSoundness.{unknown_holds, exact_holds, number_cases, number_is, and_of, or_of, xor_of, and_holds, or_holds, xor_holds, SameBits, kept_bits, low_short, low_holds, low_full, shr_holds, shl_holds}
-use Rattle.value_domain.proofs.BitOrder.{or_monotone, xor_monotone, number_same, divided_of, divided_monotone, known_within, known_falls, low_rises, shr_of, shr_monotone, shl_of, shl_monotone, count_of, count_monotone, below_unknown}
+use Rattle.value_domain.proofs.BitSoundness.{unknown_holds, exact_holds, number_cases, number_is, and_of, or_of, xor_of, and_holds, or_holds, xor_holds, kept_bits, low_short, low_holds, low_full, shr_holds, shl_holds}
+use Rattle.value_domain.proofs.BitOrder.{or_monotone, xor_monotone, number_same, divided_of, divided_monotone, known_within, known_falls, low_rises, shr_of, shr_monotone, shl_of, shl_monotone, count_of, count_monotone}
 
 -- ---- what an operator's result says
 unless_ok : (t : Bool) (k : TrapKind) (r : Result ℤ TrapKind) (x : ℤ) → unless_not t k r ≡ okay x → (t ≡ true) × (r ≡ okay x)

@@ -1,26 +1,25 @@
 -- The operators on known bits are monotone, and keep to the width of the scalar.
-use Rattle.std.proofs.Common.{cond, ◌≡◌, ℕ, zero, suc, ◌+◌, ◌*◌, ◌/◌, ◌%◌, ◌^◌, ◌-◌, ◌<◌, ◌≤◌, ◌==◌, min, max, ℤ, pos, negsuc, ◌⊎◌, inl, inr, Bool, true, false, not, ◌&&◌, refl, sym, ◌∙◌, ap, subst, arith, bit_and, bit_or, bit_xor, unsigned_abs, Option, Some, None, Result, Ok, Err}
+use Rattle.std.proofs.Common.{cond, ◌≡◌, ℕ, ◌+◌, ◌*◌, ◌%◌, ◌^◌, ◌-◌, ◌<◌, ◌≤◌, ◌==◌, min, max, ℤ, pos, ◌⊎◌, inl, inr, Bool, true, false, not, refl, sym, ◌∙◌, ap, subst, arith, bit_and, unsigned_abs, Option, Some, None, Result, Ok, Err}
 use Rattle.std.specs.Int.{bit_at, w64, int_shr, trailing_ones}
 use Rattle.std.proofs.lemmas.Bool.{cases_lt, eqb-true, eq-eqb}
-use Rattle.std.proofs.lemmas.Nat.{mod_below, pow_pos, and_le_l, and_le_r, and_mask, and_comm, mul-mod}
+use Rattle.std.proofs.lemmas.Nat.{mod_below, pow_pos, and_le_l, and_mask}
 use Rattle.std.proofs.lemmas.Nat.Bits.{bit_at_and, bit_at_or, bit_at_xor, bit_at-lt, bit_at-zero, bit_at_above, bit_at_ones, bit_at_ones_above, same_from_bits, bit_at-trailing_ones}
-use Rattle.std.proofs.Math.Nat.{mod-eq_of_lt, add-mod, mod-mod}
+use Rattle.std.proofs.Math.Nat.{mod-eq_of_lt}
 use Rattle.std.proofs.Math.Pow.{mod-mod-pow}
 use Rattle.gimple_ir.specs.declared.scalar.Scalar.{Scalar}
 use Rattle.gimple_ir.specs.declared.scalar.Scalar.TheVariants.{I8, I16, I32, I64, U8, U16, U32, U64, Ptr}
 use Rattle.gimple_ir.specs.declared.scalar.Cmp.{Cmp}
-use Rattle.gimple_ir.specs.declared.scalar.Cmp.TheVariants.{Eq, Ne, Lt, Le, Gt, Ge}
 use Rattle.gimple_ir.specs.declared.scalar.Op.{Op}
 use Rattle.gimple_ir.specs.declared.value.TrapKind.{TrapKind}
-use Rattle.gimple_core.specs.Operators.{is_signed, wrapped, low_bits, bits_of, modulus_of, half_of, is_count, op_of, cmp_of}
+use Rattle.gimple_core.specs.Operators.{wrapped, low_bits, bits_of, modulus_of, is_count, op_of, cmp_of}
 use Rattle.value_domain.specs.declared.bits.Bits.{Bits}
-use Rattle.value_domain.specs.Bitmasks.{pattern, Agrees, IsBits, and_known, or_known, xor_known, conflict, AreBelow}
-use Rattle.value_domain.specs.BitsLemmas.{bit_agrees, bit_below, and_monotone, or_sound}
+use Rattle.value_domain.specs.Bitmasks.{IsBits, or_known, xor_known, conflict, AreBelow}
+use Rattle.value_domain.specs.BitsLemmas.{bit_agrees, bit_below, or_sound}
 use Rattle.value_domain.specs.BitOperators.{unknown_bits, exact_bits, number_of, low_known, low_exact, result_bits, both_known, divided_bits, if_count, mask_above, value_above, shifted_left, shifted_right, converted_bits, truth, exact_truth, some_truth, apart_result, unless_apart, compared_bits, cmp_bits}
 use Rattle.value_domain.proofs.ScalarLemmas.{low_below, width_bound, halves}
-use Rattle.value_domain.proofs.TwosLemmas.{bit_of, low_bit, mod_bit, shr_bit}
-use Rattle.value_domain.proofs.AgreeLemmas.{BitsOf, value_short, min_by, agrees_by, mask_spread, value_spread}
-use Rattle.value_domain.proofs.BitSoundness.{unknown_holds, all_ones, ones_low, ones_within, low_full, low_short, shl_agrees, shl_ones_low, shl_ones_high, truth_holds, exact_holds}
+use Rattle.value_domain.proofs.TwosLemmas.{low_bit, mod_bit, shr_bit}
+use Rattle.value_domain.proofs.AgreeLemmas.{BitsOf, min_by, agrees_by, mask_spread, value_spread}
+use Rattle.value_domain.proofs.BitSoundness.{unknown_holds, all_ones, ones_low, ones_within, shl_agrees, shl_ones_low, shl_ones_high}
 
 -- ---- bit by bit
 or_rises : (p q u v s t x y : ℕ) → p < 2 → q < 2 → u < 2 → v < 2 → s < 2 → t < 2 → x < 2 → y < 2 → min p s ≡ s → min u s ≡ x → min q t ≡ t → min v t ≡ y → min (max (max (min p q) u) v) (max (max (min s t) x) y) ≡ max (max (min s t) x) y

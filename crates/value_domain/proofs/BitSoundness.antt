@@ -1,28 +1,27 @@
 -- What is known of the bits of results holds of the results.
-use Rattle.std.proofs.Common.{cond, ◌≡◌, ℕ, zero, suc, ◌+◌, ◌*◌, ◌/◌, ◌%◌, ◌^◌, ◌-◌, ◌<◌, ◌≤◌, ◌==◌, min, max, ℤ, pos, negsuc, ◌+ℤ◌, ◌-ℤ◌, ◌*ℤ◌, ◌≤ℤ◌, ◌<ℤ◌, ◌⊎◌, inl, inr, Bool, true, false, not, ◌&&◌, refl, sym, ◌∙◌, ap, subst, arith, bit_and, bit_or, bit_xor, unsigned_abs, Option, Some, None, Result, Ok, Err, int_le, int_lt}
+use Rattle.std.proofs.Common.{cond, ◌≡◌, ℕ, ◌+◌, ◌*◌, ◌%◌, ◌^◌, ◌-◌, ◌<◌, ◌≤◌, ◌==◌, min, ℤ, pos, ◌≤ℤ◌, ◌⊎◌, inl, inr, Bool, true, false, not, ◌&&◌, refl, sym, ◌∙◌, ap, subst, arith, bit_and, bit_or, bit_xor, Option, Some, None, Err, int_le}
 use Rattle.std.specs.Int.{bit_at, w64, int_shr, trailing_ones}
 use Rattle.std.proofs.lemmas.Int.{ints}
 use Rattle.std.proofs.lemmas.Bool.{cases_lt, eqb-true, eq-eqb}
-use Rattle.std.proofs.lemmas.Nat.{mod_below, pow_pos, and_le_l, and_le_r, or_lt, xor_lt, and_mask}
-use Rattle.std.proofs.lemmas.Nat.Bits.{bit_at_and, bit_at_or, bit_at_xor, bit_at-lt, bit_at-zero, bit_at_above, bit_at_ones, bit_at_ones_above, bit_at_cat_low, bit_at_cat_high, same_from_bits, bit_at-trailing_ones, same_from_bits_below}
+use Rattle.std.proofs.lemmas.Nat.{mod_below, pow_pos, and_le_l, or_lt, xor_lt, and_mask}
+use Rattle.std.proofs.lemmas.Nat.Bits.{bit_at_and, bit_at_xor, bit_at-lt, bit_at-zero, bit_at_above, bit_at_ones, bit_at_ones_above, bit_at_cat_low, bit_at_cat_high, same_from_bits, bit_at-trailing_ones, same_from_bits_below}
 use Rattle.std.proofs.Math.Nat.{mod-eq_of_lt, pow-le-pow_right}
 use Rattle.gimple_ir.specs.declared.scalar.Scalar.{Scalar}
 use Rattle.gimple_ir.specs.declared.scalar.Scalar.TheVariants.{I8, I16, I32, I64, U8, U16, U32, U64, Ptr}
 use Rattle.gimple_ir.specs.declared.scalar.Cmp.{Cmp}
 use Rattle.gimple_ir.specs.declared.scalar.Cmp.TheVariants.{Eq, Ne, Lt, Le, Gt, Ge}
-use Rattle.gimple_ir.specs.declared.value.TrapKind.{TrapKind}
 use Rattle.gimple_ir.specs.declared.value.TrapKind.TheVariants.{Overflow}
-use Rattle.gimple_core.specs.Operators.{is_signed, in_scalar, kept, wrapped, of_bits, low_bits, bits_of, modulus_of, half_of, cmp_of}
+use Rattle.gimple_core.specs.Operators.{is_signed, in_scalar, kept, wrapped, of_bits, low_bits, bits_of, modulus_of, cmp_of}
 use Rattle.value_domain.specs.declared.bits.Bits.{Bits}
 use Rattle.value_domain.specs.Ranges.{InRange}
 use Rattle.value_domain.specs.RangeOperators.{type_range}
-use Rattle.value_domain.specs.Bitmasks.{pattern, Agrees, IsBits, and_known, or_known, xor_known, conflict}
+use Rattle.value_domain.specs.Bitmasks.{pattern, Agrees, and_known, or_known, xor_known, conflict}
 use Rattle.value_domain.specs.BitsLemmas.{bit_agrees, and_sound, or_sound, xor_sound}
-use Rattle.value_domain.specs.BitOperators.{unknown_bits, exact_bits, number_of, low_known, low_exact, mask_above, value_above, shifted_left, shifted_right, converted_bits, truth, exact_truth, some_truth, apart_result, unless_apart, compared_bits, cmp_bits}
-use Rattle.value_domain.proofs.ScalarLemmas.{okay, two, low_below, width_bound, of_low, halves, wrapped_is}
-use Rattle.value_domain.specs.FitLemmas.{Tells, le_tells}
+use Rattle.value_domain.specs.BitOperators.{unknown_bits, exact_bits, number_of, low_exact, mask_above, value_above, shifted_left, shifted_right, converted_bits, truth, exact_truth, some_truth, apart_result, unless_apart, compared_bits, cmp_bits}
+use Rattle.value_domain.proofs.ScalarLemmas.{okay, two, low_below, of_low, halves, wrapped_is}
+use Rattle.value_domain.specs.FitLemmas.{le_tells}
 use Rattle.value_domain.proofs.TwosLemmas.{bit_of, bit_of-lt, low_bit, pattern_bit, mod_bit, of_bits_bit, wrapped_bit, shr_bit}
-use Rattle.value_domain.proofs.AgreeLemmas.{BitsOf, value_short, min_by, inside, agree_bit, agrees_by, agree_from, to_low, from_low_bits, number_spread}
+use Rattle.value_domain.proofs.AgreeLemmas.{BitsOf, value_short, min_by, inside, agree_from, to_low, from_low_bits, number_spread}
 
 -- nothing is known, or all
 pub unknown_holds : (n : ℕ) → Agrees n unknown_bits

@@ -1,5 +1,5 @@
 -- Values brought into a scalar.
-use Rattle.std.proofs.Common.{cond, ◌≡◌, ℕ, zero, suc, ◌+◌, ◌%◌, ◌^◌, ◌-◌, ◌<◌, ◌≤◌, min, ℤ, pos, negsuc, ◌≤ℤ◌, ◌<ℤ◌, ◌⊎◌, inl, inr, Bool, true, false, not, ◌&&◌, refl, sym, ◌∙◌, ap, subst, int_le, int_lt, arith, bit_and, List, [], ◌∷◌, length, leb, Option, Some, None}
+use Rattle.std.proofs.Common.{cond, ◌≡◌, ℕ, ◌%◌, ◌^◌, ◌<◌, ◌≤◌, ℤ, pos, ◌≤ℤ◌, inl, inr, Bool, true, false, refl, sym, ◌∙◌, ap, subst, int_le, arith, bit_and, List, [], ◌∷◌, length, Option, Some, None}
 use Rattle.std.specs.Int.{int_min, int_max}
 use Rattle.std.proofs.lemmas.Int.{ints, clamps}
 use Rattle.std.proofs.lemmas.Bool.{le-leb}
@@ -8,29 +8,28 @@ use Rattle.std.proofs.Math.Nat.{mod-eq_of_lt}
 use Rattle.gimple_ir.specs.declared.scalar.Scalar.{Scalar}
 use Rattle.gimple_ir.specs.declared.value.Constant.{Constant}
 use Rattle.gimple_core.specs.Operators.{bits_of, modulus_of}
-use Rattle.lattice_parts.specs.Sets.{Has, Each, kept_members}
+use Rattle.lattice_parts.specs.Sets.{Has, kept_members}
 use Rattle.value_domain.specs.declared.bits.Bits.{Bits}
 use Rattle.value_domain.specs.declared.range.Range.{Range}
 use Rattle.value_domain.specs.declared.vals.Vals.{Vals}
 use Rattle.value_domain.specs.declared.vals.Vals.TheVariants.{Any, Nothing, Among}
 use Rattle.value_domain.specs.declared.abs_val.AbsVal.{AbsVal}
 use Rattle.value_domain.specs.Bitmasks.{IsBits, AreBelow}
-use Rattle.value_domain.specs.Ranges.{InRange, Within, WithinEach, FitsRange, meet_range}
-use Rattle.value_domain.specs.RangeOperators.{IsInside, type_range}
-use Rattle.value_domain.specs.FitLemmas.{Tells, le_tells, meet_monotone}
+use Rattle.value_domain.specs.Ranges.{Within, WithinEach, FitsRange, meet_range}
+use Rattle.value_domain.specs.RangeOperators.{type_range}
+use Rattle.value_domain.specs.FitLemmas.{le_tells, meet_monotone}
 use Rattle.value_domain.specs.BitOperators.{unknown_bits}
 use Rattle.value_domain.specs.ConstantOperators.{is_pointer, constant_in, vals_of, kept_vals}
 use Rattle.value_domain.specs.AbsOperators.{assembled, zero_range, span_of, bits_in, range_in, brought_into}
-use Rattle.value_domain.specs.Values.{FitsAmong, FitsVals, FitsWith, is_none_val, none_val, abs_val_below, vals_capped}
+use Rattle.value_domain.specs.Values.{FitsVals, is_none_val, none_val, abs_val_below}
 use Rattle.value_domain.specs.ValueLemmas.{abs_apart}
 use Rattle.value_domain.specs.Thresholds.{IsLawful}
-use Rattle.value_domain.specs.Holding.{ValsOf, IsOf, PartsOf, mask_width}
+use Rattle.value_domain.specs.Holding.{ValsOf}
 use Rattle.value_domain.specs.Laws.{BroughtFits, BroughtRises, BroughtSame}
 use Rattle.value_domain.proofs.ScalarLemmas.{halves, type_zero}
 use Rattle.value_domain.proofs.BitOrder.{below_unknown}
-use Rattle.value_domain.proofs.ValsLaws.{MayFit, kept_fit, kept_in, kept_rise}
-use Rattle.value_domain.proofs.WholeLemmas.{width_is, span_is, GoodParts, IsGood, none_good, assembled_good, PartsBelow, parts_below_is, assembled_rises, IsFullOption}
-use Rattle.value_domain.proofs.AbsLaws.{none_or_not}
+use Rattle.value_domain.proofs.ValsLaws.{kept_fit, kept_in, kept_rise}
+use Rattle.value_domain.proofs.WholeLemmas.{width_is, span_is, IsGood, none_good, assembled_good, PartsBelow, parts_below_is, assembled_rises, IsFullOption}
 use Rattle.value_domain.proofs.MeetLaws.{meet_fits}
 
 clash : (b : Bool) → b ≡ true → b ≡ false → ⊥

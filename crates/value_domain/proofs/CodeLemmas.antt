@@ -1,22 +1,22 @@
 -- What the operators' code asks of the values that it is given.
-use Rattle.std.proofs.Common.{cond, ◌≡◌, ℕ, ◌+◌, ◌-◌, ◌^◌, ◌<◌, ◌≤◌, ℤ, pos, negsuc, ◌-ℤ◌, ◌≤ℤ◌, ◌<ℤ◌, ◌⊎◌, inl, inr, Bool, true, false, ◌&&◌, refl, sym, ◌∙◌, ap, subst, arith, int_lt, List, IsTrue}
+use Rattle.std.proofs.Common.{◌≡◌, ℕ, ◌-◌, ◌^◌, ◌≤◌, ℤ, pos, ◌-ℤ◌, ◌≤ℤ◌, inl, inr, Bool, true, false, refl, sym, ap, subst, arith, List}
 use Rattle.std.proofs.lemmas.Int.{ints}
 use Rattle.gimple_ir.specs.declared.scalar.Scalar.{Scalar}
 use Rattle.gimple_ir.specs.declared.scalar.Op.{Op}
 use Rattle.gimple_ir.specs.declared.scalar.Op.TheVariants.{Add, Sub, Mul, Div, Rem, And, Or, Xor, Shl, Shr}
-use Rattle.gimple_core.specs.Operators.{IsWord, IsSignedWord, IsRightSide, is_signed, in_scalar, half_of, bits_of}
+use Rattle.gimple_core.specs.Operators.{IsWord, IsRightSide, is_signed, half_of, bits_of}
 use Rattle.value_domain.specs.declared.range.Range.{Range}
 use Rattle.value_domain.specs.declared.abs_val.AbsVal.{AbsVal}
-use Rattle.value_domain.specs.Ranges.{Within, is_bare}
-use Rattle.value_domain.specs.RangeOperators.{IsInside, IsWords, IsSignedWords, type_range, lowest, highest}
-use Rattle.value_domain.specs.ConstantOperators.{is_pointer, in_word, may_stand_right}
+use Rattle.value_domain.specs.Ranges.{Within}
+use Rattle.value_domain.specs.RangeOperators.{IsInside, IsWords, IsSignedWords, lowest, highest}
+use Rattle.value_domain.specs.ConstantOperators.{is_pointer, may_stand_right}
 use Rattle.value_domain.specs.AbsOperators.{span_of, zero_range}
 use Rattle.value_domain.specs.Values.{none_val, is_none_val, FitsWith}
 use Rattle.value_domain.specs.ValueLemmas.{abs_apart}
-use Rattle.value_domain.specs.FitLemmas.{Tells, le_tells}
+use Rattle.value_domain.specs.FitLemmas.{le_tells}
 use Rattle.value_domain.specs.Holding.{IsOf, IsRight, IsAllowed}
 use Rattle.value_domain.proofs.ScalarLemmas.{two, type_word, signed_ends, width_bound}
-use Rattle.value_domain.proofs.WholeLemmas.{ProperOf, proper_of, span_is}
+use Rattle.value_domain.proofs.WholeLemmas.{proper_of}
 use Rattle.std.proofs.Math.Nat.{pow-le-pow_right}
 
 clash : (b : Bool) → b ≡ true → b ≡ false → ⊥

@@ -1,29 +1,28 @@
 -- Comparisons and conversions of abstract values: they hold the results, are monotone and fit.
-use Rattle.std.proofs.Common.{cond, ◌≡◌, ℕ, zero, suc, ◌+◌, ◌^◌, ◌<◌, ◌≤◌, ℤ, pos, negsuc, ◌≤ℤ◌, ◌<ℤ◌, ◌⊎◌, inl, inr, Bool, true, false, not, ◌&&◌, refl, sym, ◌∙◌, ap, subst, arith, List, [], ◌∷◌, Option, Some, None}
+use Rattle.std.proofs.Common.{cond, ◌≡◌, ℕ, ◌^◌, ◌<◌, ℤ, pos, ◌≤ℤ◌, Bool, true, false, not, ◌&&◌, refl, sym, ◌∙◌, ap, subst, arith, List, Some}
 use Rattle.std.proofs.lemmas.Int.{ints}
 use Rattle.gimple_ir.specs.declared.scalar.Scalar.{Scalar}
 use Rattle.gimple_ir.specs.declared.scalar.Cmp.{Cmp}
 use Rattle.gimple_ir.specs.declared.value.Value.{Value}
 use Rattle.gimple_ir.specs.declared.value.Value.TheVariants.{Int as Number, Null as NullPointer, At}
-use Rattle.gimple_ir.specs.declared.value.Object.{Object}
 use Rattle.gimple_ir.specs.declared.value.Object.TheVariants.{Global as GlobalObject, Local as LocalObject}
 use Rattle.gimple_ir.specs.declared.value.Constant.{Constant}
 use Rattle.gimple_ir.specs.declared.value.Constant.TheVariants.{Int, Null, Global}
-use Rattle.gimple_core.specs.Operators.{in_scalar, bits_of, wrapped, cmp_of}
-use Rattle.gimple_core.specs.Run.{compares, pointers_compare, same_pointer, one_if, converted, any_number}
+use Rattle.gimple_core.specs.Operators.{in_scalar, wrapped, cmp_of}
+use Rattle.gimple_core.specs.Run.{compares, pointers_compare, one_if, converted}
 use Rattle.value_domain.specs.declared.bits.Bits.{Bits}
 use Rattle.value_domain.specs.declared.range.Range.{Range}
 use Rattle.value_domain.specs.declared.vals.Vals.{Vals}
 use Rattle.value_domain.specs.declared.abs_val.AbsVal.{AbsVal}
-use Rattle.value_domain.specs.Bitmasks.{pattern, Agrees, AreBelow, IsBits}
-use Rattle.value_domain.specs.Ranges.{InRange, InEach, Within, WithinEach, FitsRange}
-use Rattle.value_domain.specs.RangeOperators.{type_range, IsInside, rounded, cmp_range, convert_range}
+use Rattle.value_domain.specs.Bitmasks.{pattern, Agrees, AreBelow}
+use Rattle.value_domain.specs.Ranges.{InRange, Within, FitsRange}
+use Rattle.value_domain.specs.RangeOperators.{type_range, rounded, cmp_range, convert_range}
 use Rattle.value_domain.specs.BitOperators.{truth, some_truth, cmp_bits, converted_bits}
 use Rattle.value_domain.specs.ConstantOperators.{is_pointer, constant_in, cmp_constant, compared_constants, same_constant, convert_constant, pairs_vals, mapped_vals}
 use Rattle.value_domain.specs.AbsOperators.{assembled, span_of, either_range, bits_compared, range_compared}
-use Rattle.value_domain.specs.Values.{FitsVals, vals_below, abs_val_below}
+use Rattle.value_domain.specs.Values.{FitsVals, abs_val_below}
 use Rattle.value_domain.specs.Thresholds.{IsLawful}
-use Rattle.value_domain.specs.Holding.{Holds, IsAmong, constant_of, number_part, value_of_scalar, mask_width}
+use Rattle.value_domain.specs.Holding.{Holds, IsAmong, constant_of, value_of_scalar}
 use Rattle.value_domain.proofs.ScalarLemmas.{in_type, in_type_is, type_zero, wrapped_in}
 use Rattle.value_domain.proofs.AgreeLemmas.{BitsOf}
 use Rattle.value_domain.proofs.BitSoundness.{truth_holds, cmp_holds as cmp_bits_hold, convert_holds as convert_bits_hold}
@@ -32,8 +31,8 @@ use Rattle.value_domain.proofs.RangeSoundness.{truth_holds as truth_between, cmp
 use Rattle.value_domain.proofs.RangeOrder.{cmp_monotone as cmp_range_monotone, cmp_cases, convert_inside, convert_monotone as convert_range_monotone}
 use Rattle.value_domain.proofs.RangeLaws.{round_holds, round_inside, round_fits}
 use Rattle.value_domain.proofs.RoundingLemmas.{rounded_monotone}
-use Rattle.value_domain.proofs.ValsLaws.{MayFit, Rises, pairs_hold, none_left, none_right, pairs_fit, pairs_of, pairs_rise, mapped_hold, mapped_fit, mapped_of, mapped_rise}
-use Rattle.value_domain.proofs.WholeLemmas.{width_is, span_is, number_value, ProperOf, assembled_holds, GoodParts, IsGood, assembled_good, PartsBelow, assembled_rises, IsFullOption}
+use Rattle.value_domain.proofs.ValsLaws.{pairs_hold, none_left, none_right, pairs_fit, pairs_of, pairs_rise, mapped_hold, mapped_fit, mapped_of, mapped_rise}
+use Rattle.value_domain.proofs.WholeLemmas.{width_is, span_is, number_value, ProperOf, assembled_holds, IsGood, assembled_good, PartsBelow, assembled_rises, IsFullOption}
 use Rattle.value_domain.proofs.OperatorLaws.{any_is}
 
 truth_value : (b : Bool) → one_if b ≡ Number (truth b)

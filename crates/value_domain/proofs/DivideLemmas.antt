@@ -1,13 +1,13 @@
 -- The quotients of two intervals.
-use Rattle.std.proofs.Common.{cond, ◌≡◌, ℕ, zero, suc, ◌+◌, ◌*◌, ◌/◌, ◌<◌, ◌≤◌, ℤ, pos, negsuc, neg_ℤ, ◌≤ℤ◌, ◌<ℤ◌, ◌⊎◌, inl, inr, Bool, true, false, refl, sym, ◌∙◌, ap, subst, int_le, int_lt, int_div, arith, Option, Some, None}
+use Rattle.std.proofs.Common.{cond, ◌≡◌, ℕ, zero, suc, ◌*◌, ◌/◌, ◌<◌, ◌≤◌, ℤ, pos, negsuc, neg_ℤ, ◌≤ℤ◌, ◌<ℤ◌, ◌⊎◌, inl, inr, Bool, true, false, refl, int_lt, int_div, arith, Option, Some, None}
 use Rattle.std.specs.Int.{int_min, int_max}
 use Rattle.std.proofs.lemmas.Int.{ints, clamps}
 use Rattle.std.proofs.lemmas.Nat.{mul-le, le-div}
 use Rattle.std.proofs.Math.Nat.{div-mul-le_self}
 use Rattle.value_domain.specs.declared.range.Range.{Range}
-use Rattle.value_domain.specs.Ranges.{InRange, Within, WithinEach, InEach, IsResult, EndsReached, IsHull, Between, IsSteady, corners, corners_each, hull, hull_each, below_zero, above_zero, IsNegative, IsPositive, quotient_range}
+use Rattle.value_domain.specs.Ranges.{InRange, Within, InEach, IsResult, EndsReached, IsHull, Between, IsSteady, corners, corners_each, hull_each, below_zero, above_zero, IsNegative, IsPositive, quotient_range}
 use Rattle.value_domain.proofs.RangeLemmas.{between_up, between_down, corners_hull, corners_reached}
-use Rattle.value_domain.specs.FitLemmas.{Tells, picked_min, picked_max}
+use Rattle.value_domain.specs.FitLemmas.{picked_min, picked_max}
 
 div_mono : (a b k : ℕ) → 0 < k → a ≤ b → a / k ≤ b / k
 div_mono a b k p h = let e : a / k * k ≤ a = div-mul-le_self a k in le-div (a / k) b k p (omega arith)

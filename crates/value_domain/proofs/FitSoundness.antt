@@ -1,18 +1,16 @@
 -- Intervals fitted to a scalar: sound for results that do not trap, monotone, and of the scalar.
-use Rattle.std.proofs.Common.{cond, ◌≡◌, ℕ, zero, suc, ◌+◌, ◌*◌, ◌/◌, ◌%◌, ◌^◌, ◌-◌, ◌<◌, ◌≤◌, ℤ, pos, negsuc, ◌≤ℤ◌, ◌<ℤ◌, ◌⊎◌, inl, inr, Bool, true, false, ◌&&◌, not, refl, sym, ◌∙◌, ap, subst, int_le, int_lt, int_div, arith, unsigned_abs, Option, Some, None, Result, Ok, Err}
+use Rattle.std.proofs.Common.{cond, ◌≡◌, ◌/◌, ◌≤◌, ℤ, pos, negsuc, ◌≤ℤ◌, ◌<ℤ◌, ◌⊎◌, inl, inr, Bool, true, false, refl, sym, ◌∙◌, subst, int_le, int_div, arith, Option, Some, None, Err}
 use Rattle.std.specs.Int.{int_min, int_max}
 use Rattle.std.proofs.lemmas.Int.{ints, clamps}
 use Rattle.std.proofs.Math.Nat.{div-le_self}
 use Rattle.gimple_ir.specs.declared.scalar.Scalar.{Scalar}
-use Rattle.gimple_ir.specs.declared.value.TrapKind.{TrapKind}
 use Rattle.gimple_ir.specs.declared.value.TrapKind.TheVariants.{Overflow}
 use Rattle.gimple_core.specs.Operators.{is_signed, in_scalar, least_of, greatest_of, kept, wrapped}
 use Rattle.value_domain.specs.declared.range.Range.{Range}
-use Rattle.value_domain.specs.Ranges.{InRange, Within, WithinEach, InEach, IsHull, IsResult, EndsReached, meet_range, whole_unless}
+use Rattle.value_domain.specs.Ranges.{InRange, WithinEach, InEach, IsHull, EndsReached}
 use Rattle.value_domain.specs.RangeOperators.{IsInside, type_range, meet_each, whole_each, fitted}
-use Rattle.value_domain.specs.FitLemmas.{Tells, le_tells, meet_holds, meet_monotone, whole_holds, whole_monotone, unless_cases}
-use Rattle.value_domain.proofs.ScalarLemmas.{okay, in_type, in_type_is, wrapped_same, wrapped_in, type_zero, neg_below, pos_below}
-use Rattle.value_domain.proofs.RangeLemmas.{hull_monotone}
+use Rattle.value_domain.specs.FitLemmas.{le_tells, meet_holds, meet_monotone, whole_monotone, unless_cases}
+use Rattle.value_domain.proofs.ScalarLemmas.{okay, in_type, wrapped_same, wrapped_in, type_zero, neg_below}
 
 pub okay_same : (y x : ℤ) → okay y ≡ okay x → y ≡ x
 okay_same y x e = cc

@@ -1,27 +1,24 @@
 -- A known constant is the value, and where no trap is left open none comes.
-use Rattle.std.proofs.Common.{cond, ◌≡◌, ℕ, zero, suc, ◌+◌, ◌^◌, ◌-◌, ◌<◌, ◌≤◌, ◌==◌, ℤ, pos, negsuc, ◌≤ℤ◌, ◌<ℤ◌, ◌⊎◌, inl, inr, Bool, true, false, not, ◌&&◌, refl, sym, ◌∙◌, ap, subst, int_le, int_lt, arith, List, [], ◌∷◌, Option, Some, None}
+use Rattle.std.proofs.Common.{cond, ◌≡◌, ℤ, pos, ◌≤ℤ◌, inl, inr, Bool, true, false, ◌&&◌, refl, sym, ◌∙◌, ap, subst, int_le, arith, [], ◌∷◌, Option, Some, None}
 use Rattle.std.proofs.lemmas.Int.{ints}
-use Rattle.gimple_ir.specs.declared.scalar.Scalar.{Scalar}
-use Rattle.gimple_ir.specs.declared.value.Value.{Value}
-use Rattle.gimple_ir.specs.declared.value.Value.TheVariants.{Int as Number, Null as NullPointer, At}
+use Rattle.gimple_ir.specs.declared.value.Value.TheVariants.{Int as Number}
 use Rattle.gimple_ir.specs.declared.value.Constant.{Constant}
-use Rattle.gimple_ir.specs.declared.value.Constant.TheVariants.{Int, Null, Global}
-use Rattle.gimple_core.specs.Operators.{in_scalar, wrapped, modulus_of}
+use Rattle.gimple_ir.specs.declared.value.Constant.TheVariants.{Int}
+use Rattle.gimple_core.specs.Operators.{wrapped}
 use Rattle.value_domain.specs.declared.range.Range.{Range}
 use Rattle.value_domain.specs.declared.vals.Vals.{Vals}
 use Rattle.value_domain.specs.declared.vals.Vals.TheVariants.{Any, Nothing, Among}
-use Rattle.value_domain.specs.declared.abs_val.AbsVal.{AbsVal}
 use Rattle.value_domain.specs.Ranges.{InRange}
-use Rattle.value_domain.specs.FitLemmas.{Tells, le_tells}
+use Rattle.value_domain.specs.FitLemmas.{le_tells}
 use Rattle.value_domain.specs.BitOperators.{number_of}
 use Rattle.value_domain.specs.ConstantOperators.{is_pointer}
 use Rattle.value_domain.specs.AbsOperators.{single_of, number_constant, range_constant, first_constant, known_of}
-use Rattle.value_domain.specs.Values.{FitsWith, is_none_val}
-use Rattle.value_domain.specs.Holding.{Holds, IsAmong, IsListed, constant_of, value_of_scalar, IsOf}
+use Rattle.value_domain.specs.Values.{is_none_val}
+use Rattle.value_domain.specs.Holding.{Holds, IsAmong, constant_of}
 use Rattle.value_domain.specs.Laws.{KnownHolds}
 use Rattle.value_domain.proofs.ScalarLemmas.{two, in_type}
 use Rattle.value_domain.proofs.BitSoundness.{number_cases, number_is}
-use Rattle.value_domain.proofs.WholeLemmas.{number_value, ProperOf}
+use Rattle.value_domain.proofs.WholeLemmas.{number_value}
 use Rattle.value_domain.proofs.AbsLaws.{none_or_not, proper_by}
 
 some_same : (c d : Constant) → Some c ≡ Some d → c ≡ d

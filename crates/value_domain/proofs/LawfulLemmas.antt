@@ -1,17 +1,17 @@
 -- The thresholds of every program are lawful.
-use Rattle.std.proofs.Common.{cond, ◌≡◌, ℕ, zero, suc, ◌+◌, ◌-◌, ◌^◌, ◌<◌, ◌≤◌, ℤ, pos, negsuc, ◌+ℤ◌, ◌-ℤ◌, ◌≤ℤ◌, ◌<ℤ◌, ◌⊎◌, inl, inr, Bool, true, false, ◌&&◌, refl, sym, ◌∙◌, ap, subst, int_le, int_lt, arith, List, [], ◌∷◌}
+use Rattle.std.proofs.Common.{cond, ◌≡◌, ℕ, zero, suc, ◌+◌, ◌-◌, ◌^◌, ◌<◌, ◌≤◌, ℤ, pos, negsuc, ◌+ℤ◌, ◌-ℤ◌, ◌≤ℤ◌, ◌⊎◌, inl, inr, Bool, true, false, ◌&&◌, refl, sym, ◌∙◌, ap, subst, int_le, int_lt, arith, List, [], ◌∷◌}
 use Rattle.std.proofs.lemmas.Int.{ints}
 use Rattle.std.proofs.lemmas.Nat.{pow_pos}
 use Rattle.std.proofs.lemmas.Bool.{cases_lt}
 use Rattle.std.proofs.Math.Nat.{pow-le-pow_right}
 use Rattle.gimple_ir.specs.declared.scalar.Scalar.{Scalar}
 use Rattle.gimple_ir.specs.declared.program.Program.{Program}
-use Rattle.gimple_core.specs.Operators.{is_signed, least_of, greatest_of, bits_of, half_of, modulus_of}
-use Rattle.lattice_parts.specs.Sets.{Has, Ascending, Each, placed}
+use Rattle.gimple_core.specs.Operators.{is_signed, least_of, greatest_of, bits_of}
+use Rattle.lattice_parts.specs.Sets.{Has, Ascending, placed}
 use Rattle.lattice_parts.specs.SetLemmas.{placed_holds, placed_ascends}
 use Rattle.value_domain.specs.OrderLemmas.{int_order}
 use Rattle.value_domain.specs.RangeOperators.{lowest, highest}
-use Rattle.value_domain.specs.FitLemmas.{Tells, le_tells}
+use Rattle.value_domain.specs.FitLemmas.{le_tells}
 use Rattle.value_domain.specs.Thresholds.{IsLawful, put_word, words_put, power_put, negative_put, powers_put, negatives_put, fixed_thresholds, program_noted, thresholds_list}
 use Rattle.value_domain.proofs.ScalarLemmas.{two, both, signed_ends, unsigned_ends, width_bound}
 

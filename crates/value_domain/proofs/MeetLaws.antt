@@ -1,41 +1,31 @@
 -- Meets and taken comparisons: they hold the values, are monotone and fit.
-use Rattle.std.proofs.Common.{cond, ◌≡◌, ℕ, zero, suc, ◌+◌, ◌%◌, ◌^◌, ◌<◌, ◌≤◌, ◌==◌, min, max, ℤ, pos, negsuc, ◌+ℤ◌, ◌-ℤ◌, ◌≤ℤ◌, ◌<ℤ◌, ◌⊎◌, inl, inr, Bool, true, false, not, ◌&&◌, refl, sym, ◌∙◌, ap, subst, int_le, int_lt, arith, bit_and, bit_or, bit_xor, List, [], ◌∷◌, length, Option, Some, None}
+use Rattle.std.proofs.Common.{cond, ◌≡◌, ℕ, ◌<◌, ◌==◌, min, max, ℤ, inl, inr, Bool, true, false, refl, sym, subst, int_le, arith, bit_or, List, Option, Some, None}
 use Rattle.std.specs.Int.{int_min, int_max, bit_at}
 use Rattle.std.proofs.lemmas.Int.{ints, clamps}
 use Rattle.std.proofs.lemmas.Bool.{eqb-true, eq-eqb}
 use Rattle.std.proofs.lemmas.Nat.{or_lt}
-use Rattle.std.proofs.lemmas.Nat.Bits.{bit_at_and, bit_at_or, bit_at_xor, bit_at-lt, same_from_bits}
+use Rattle.std.proofs.lemmas.Nat.Bits.{bit_at_and, bit_at_or, bit_at-lt, same_from_bits}
 use Rattle.gimple_ir.specs.declared.scalar.Scalar.{Scalar}
-use Rattle.gimple_ir.specs.declared.scalar.Cmp.{Cmp}
-use Rattle.gimple_ir.specs.declared.scalar.Cmp.TheVariants.{Eq, Ne, Lt, Le, Gt, Ge}
 use Rattle.gimple_ir.specs.declared.value.Constant.{Constant}
-use Rattle.gimple_ir.specs.declared.value.Constant.TheVariants.{Int, Null, Global}
-use Rattle.gimple_core.specs.Operators.{cmp_of, IsWord}
-use Rattle.lattice_parts.specs.Sets.{Has, Each, has_by, kept_members}
-use Rattle.lattice_parts.specs.SetLemmas.{is_has, kept_holds, kept_from}
+use Rattle.lattice_parts.specs.Sets.{Has, has_by, kept_members}
+use Rattle.lattice_parts.specs.SetLemmas.{is_has, kept_holds}
 use Rattle.value_domain.specs.declared.bits.Bits.{Bits}
 use Rattle.value_domain.specs.declared.range.Range.{Range}
 use Rattle.value_domain.specs.declared.vals.Vals.{Vals}
 use Rattle.value_domain.specs.declared.vals.Vals.TheVariants.{Any, Nothing, Among}
-use Rattle.value_domain.specs.declared.abs_val.AbsVal.{AbsVal}
 use Rattle.value_domain.specs.Constants.{before}
 use Rattle.value_domain.specs.OrderLemmas.{constant_order}
-use Rattle.value_domain.specs.Bitmasks.{pattern, Agrees, IsBits, AreBelow, conflict, bits_met}
-use Rattle.value_domain.specs.BitsLemmas.{bit_agrees, bit_below}
-use Rattle.value_domain.specs.Ranges.{InRange, InEach, Within, WithinEach, FitsRange, meet_range}
-use Rattle.value_domain.specs.RangeOperators.{lowest, highest, allowed, IsInside, type_range, rounded, rounded_each}
-use Rattle.value_domain.specs.FitLemmas.{Tells, le_tells, meet_holds, picked_min, picked_max}
-use Rattle.value_domain.specs.ConstantOperators.{is_pointer, kept_vals}
-use Rattle.value_domain.specs.AbsOperators.{assembled, unless_none, vals_met, abs_met, span_of}
-use Rattle.value_domain.specs.Values.{FitsAmong, FitsVals, FitsWith, is_none_val, none_val}
-use Rattle.value_domain.specs.Holding.{Holds, IsAmong, IsListed, constant_of, number_part, ValsOf, IsOf, PartsOf, mask_width}
+use Rattle.value_domain.specs.Bitmasks.{pattern, Agrees, IsBits, conflict, bits_met}
+use Rattle.value_domain.specs.BitsLemmas.{bit_agrees}
+use Rattle.value_domain.specs.Ranges.{Within, FitsRange, meet_range}
+use Rattle.value_domain.specs.FitLemmas.{le_tells, meet_holds, picked_min, picked_max}
+use Rattle.value_domain.specs.AbsOperators.{assembled, vals_met, abs_met}
+use Rattle.value_domain.specs.Values.{FitsVals, is_none_val, none_val}
+use Rattle.value_domain.specs.Holding.{Holds, IsAmong, constant_of, number_part, ValsOf, mask_width}
 use Rattle.value_domain.specs.Laws.{MeetHolds, MeetFits}
-use Rattle.lattice_parts.specs.Parts.{IsNone, IsProper}
-use Rattle.value_domain.proofs.ScalarLemmas.{two, both}
 use Rattle.value_domain.proofs.BitSoundness.{no_conflict}
-use Rattle.value_domain.proofs.RangeSoundness.{lt_is}
-use Rattle.value_domain.proofs.ValsLaws.{MayFit, of_holds, kept_hold, kept_fit, kept_of}
-use Rattle.value_domain.proofs.WholeLemmas.{none_holds, assembled_holds, unless_proper, GoodParts, IsGood, none_good, assembled_good, unless_good}
+use Rattle.value_domain.proofs.ValsLaws.{MayFit, of_holds, kept_fit, kept_of}
+use Rattle.value_domain.proofs.WholeLemmas.{assembled_holds, unless_proper, IsGood, none_good, assembled_good}
 use Rattle.value_domain.proofs.AbsLaws.{none_or_not}
 
 -- ---- parts of a meet

@@ -1,5 +1,5 @@
 -- The operators on abstract values: they hold the results, are monotone and fit.
-use Rattle.std.proofs.Common.{cond, ◌≡◌, ℕ, zero, suc, ◌+◌, ◌^◌, ◌<◌, ◌≤◌, ℤ, pos, negsuc, ◌+ℤ◌, ◌≤ℤ◌, ◌<ℤ◌, ◌⊎◌, inl, inr, Bool, true, false, not, ◌&&◌, refl, sym, ◌∙◌, ap, subst, arith, int_le, int_lt, List, [], ◌∷◌, Option, Some, None, Result, Ok, Err}
+use Rattle.std.proofs.Common.{cond, ◌≡◌, ℕ, ◌^◌, ◌<◌, ℤ, pos, ◌≤ℤ◌, ◌<ℤ◌, ◌⊎◌, inl, inr, Bool, true, false, ◌&&◌, refl, sym, ◌∙◌, ap, subst, arith, int_le, List, Option, Some, None, Result, Ok, Err}
 use Rattle.std.proofs.lemmas.Int.{ints}
 use Rattle.gimple_ir.specs.declared.scalar.Scalar.{Scalar}
 use Rattle.gimple_ir.specs.declared.scalar.Scalar.TheVariants.{I8, I16, I32, I64, U8, U16, U32, U64, Ptr}
@@ -7,35 +7,32 @@ use Rattle.gimple_ir.specs.declared.scalar.Op.{Op}
 use Rattle.gimple_ir.specs.declared.scalar.Op.TheVariants.{Add, Sub, Mul, Div, Rem, And, Or, Xor, Shl, Shr}
 use Rattle.gimple_ir.specs.declared.value.TrapKind.{TrapKind}
 use Rattle.gimple_ir.specs.declared.value.Value.{Value}
-use Rattle.gimple_ir.specs.declared.value.Value.TheVariants.{Int as Number, Null as NullPointer, At}
-use Rattle.gimple_ir.specs.declared.value.Object.{Object}
-use Rattle.gimple_ir.specs.declared.value.Object.TheVariants.{Global as GlobalObject, Local as LocalObject}
+use Rattle.gimple_ir.specs.declared.value.Value.TheVariants.{Int as Number}
 use Rattle.gimple_ir.specs.declared.value.Constant.{Constant}
 use Rattle.gimple_ir.specs.declared.value.Constant.TheVariants.{Int, Null, Global}
-use Rattle.gimple_core.specs.Operators.{in_scalar, bits_of, modulus_of, op_of, wrapped, is_signed}
-use Rattle.gimple_core.specs.Memory.{moved_by}
+use Rattle.gimple_core.specs.Operators.{in_scalar, op_of}
 use Rattle.gimple_core.specs.State.{number_in}
 use Rattle.gimple_core.specs.Run.{arith_of, value_result, any_number, right_number}
 use Rattle.value_domain.specs.declared.bits.Bits.{Bits}
 use Rattle.value_domain.specs.declared.range.Range.{Range}
 use Rattle.value_domain.specs.declared.abs_val.AbsVal.{AbsVal}
-use Rattle.value_domain.specs.Bitmasks.{pattern, Agrees, AreBelow, IsBits}
+use Rattle.value_domain.specs.Bitmasks.{pattern, Agrees, AreBelow}
 use Rattle.value_domain.specs.Ranges.{InRange, InEach, Within, WithinEach, FitsRange}
 use Rattle.value_domain.specs.RangeOperators.{type_range, IsInside, lowest, highest, rounded, rounded_each, op_range}
-use Rattle.value_domain.specs.BitOperators.{unknown_bits, op_bits}
-use Rattle.value_domain.specs.ConstantOperators.{is_pointer, constant_in, in_word, may_stand_right, number_result, op_numbers, number_constants, moved_constant, op_constant, pairs_vals}
-use Rattle.value_domain.specs.AbsOperators.{assembled, unless_none, span_of, zero_range, bits_under, range_under, abs_op_of}
-use Rattle.value_domain.specs.Values.{none_val, is_none_val, FitsVals, FitsWith, abs_val_below}
+use Rattle.value_domain.specs.BitOperators.{op_bits}
+use Rattle.value_domain.specs.ConstantOperators.{is_pointer, constant_in, in_word, may_stand_right, number_result, number_constants, moved_constant, op_constant, pairs_vals}
+use Rattle.value_domain.specs.AbsOperators.{assembled, span_of, bits_under, range_under}
+use Rattle.value_domain.specs.Values.{abs_val_below}
 use Rattle.value_domain.specs.Thresholds.{IsLawful}
-use Rattle.value_domain.specs.Holding.{Holds, IsAmong, constant_of, number_part, value_of_scalar, mask_width, ValsOf, PartsOf, IsOf, IsRight, IsAllowed}
-use Rattle.value_domain.proofs.ScalarLemmas.{okay, two, both, in_type, in_type_is, type_word, wrapped_in}
+use Rattle.value_domain.specs.Holding.{Holds, value_of_scalar, IsRight}
+use Rattle.value_domain.proofs.ScalarLemmas.{okay, two, both, in_type, in_type_is, type_word}
 use Rattle.value_domain.proofs.AgreeLemmas.{BitsOf}
 use Rattle.value_domain.proofs.BitLaws.{op_bits_hold, op_bits_of, op_bits_monotone}
 use Rattle.value_domain.proofs.RangeLaws.{op_range_holds, op_range_inside, op_range_monotone, round_each_holds, round_inside, round_fits}
 use Rattle.value_domain.proofs.RoundingLemmas.{rounded_monotone}
 use Rattle.value_domain.proofs.FitSoundness.{EachInside}
-use Rattle.value_domain.proofs.ValsLaws.{MayFit, Rises, pairs_hold, pairs_fit, pairs_of, pairs_rise}
-use Rattle.value_domain.proofs.WholeLemmas.{width_is, span_is, number_value, ProperOf, proper_of, none_holds, assembled_holds, unless_proper, GoodParts, IsGood, none_good, assembled_good, unless_good, PartsBelow, assembled_rises, unless_rises, IsFullOption}
+use Rattle.value_domain.proofs.ValsLaws.{pairs_hold, pairs_fit, pairs_of, pairs_rise}
+use Rattle.value_domain.proofs.WholeLemmas.{width_is, span_is, number_value, ProperOf, assembled_holds, IsGood, assembled_good, PartsBelow, assembled_rises, IsFullOption}
 
 -- ---- the run's arithmetic on numbers of a scalar
 number_is : (scalar : Scalar) (z : ℤ) → in_scalar scalar z ≡ true → number_in scalar (Number z) ≡ z

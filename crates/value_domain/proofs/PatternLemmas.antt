@@ -1,6 +1,6 @@
 -- The 64 bits of a sum, a difference and a product.
-use Rattle.std.proofs.Common.{cond, ◌≡◌, ℕ, zero, suc, ◌+◌, ◌-◌, ◌*◌, ◌/◌, ◌%◌, ◌^◌, ◌<◌, ◌≤◌, ℤ, pos, negsuc, ◌+ℤ◌, ◌-ℤ◌, ◌*ℤ◌, ◌≤ℤ◌, ◌<ℤ◌, Bool, true, false, refl, sym, ◌∙◌, ap, subst, arith, bit_and, unsigned_abs, lit<, ◌⊎◌, inl, inr}
-use Rattle.std.specs.Int.{w64, int_rem_euclid, int_wrap, cast_signed, cast_unsigned}
+use Rattle.std.proofs.Common.{◌≡◌, ℕ, ◌+◌, ◌-◌, ◌*◌, ◌%◌, ◌^◌, ◌<◌, ◌≤◌, ℤ, pos, negsuc, ◌+ℤ◌, ◌-ℤ◌, ◌*ℤ◌, refl, sym, ◌∙◌, ap, arith, bit_and, lit<, ◌⊎◌, inl, inr}
+use Rattle.std.specs.Int.{w64, int_wrap, cast_signed, cast_unsigned}
 use Rattle.std.proofs.lemmas.Int.{of_z-to_z, wrapping_add-bits, wrapping_mul-bits, int_wrap-add_left, int_wrap-add_right, int_wrap-mul_left, int_wrap-mul_right}
 use Rattle.std.proofs.lemmas.Nat.{mod_below, and_mod, and_mask, mul-mod}
 use Rattle.std.proofs.lemmas.Bool.{cases_lt}

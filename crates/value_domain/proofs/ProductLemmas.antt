@@ -1,14 +1,14 @@
 -- Products of intervals from 0.
-use Rattle.std.proofs.Common.{cond, ◌≡◌, ℕ, ◌+◌, ◌*◌, ◌^◌, ◌<◌, ◌≤◌, ℤ, pos, negsuc, ◌*ℤ◌, ◌≤ℤ◌, ◌<ℤ◌, ◌⊎◌, inl, inr, Bool, true, false, refl, sym, ◌∙◌, ap, subst, arith, Option, Some}
-use Rattle.std.specs.Int.{int_min, int_max}
+use Rattle.std.proofs.Common.{◌≡◌, ℕ, ◌*◌, ◌^◌, ◌≤◌, ℤ, pos, negsuc, ◌*ℤ◌, ◌≤ℤ◌, ◌<ℤ◌, ◌⊎◌, inl, inr, false, refl, sym, ◌∙◌, ap, subst, arith, Some}
+use Rattle.std.specs.Int.{int_min}
 use Rattle.std.proofs.lemmas.Int.{ints, clamps}
 use Rattle.std.proofs.lemmas.Nat.{mul-le}
 use Rattle.gimple_ir.specs.declared.scalar.Scalar.{Scalar}
-use Rattle.gimple_core.specs.Operators.{is_signed, least_of, greatest_of}
+use Rattle.gimple_core.specs.Operators.{is_signed, greatest_of}
 use Rattle.value_domain.specs.declared.range.Range.{Range}
 use Rattle.value_domain.specs.Ranges.{whole_unless, corners, hull_four, product_range}
 use Rattle.value_domain.specs.RangeOperators.{IsInside, IsUnsignedWord, type_range, fitted, highest}
-use Rattle.value_domain.specs.FitLemmas.{Tells, le_tells, unless_cases}
+use Rattle.value_domain.specs.FitLemmas.{unless_cases}
 use Rattle.value_domain.proofs.ScalarLemmas.{unsigned_ends, type_word}
 
 range_by : (a b c d : ℤ) → a ≡ c → b ≡ d → ◌≡◌ {A = Range} (record { low = a; high = b }) (record { low = c; high = d })

@@ -1,24 +1,22 @@
 -- The interval of each operator's result: it holds the result, is monotone and lies in the scalar; and rounding.
-use Rattle.std.proofs.Common.{cond, ◌≡◌, ℕ, zero, suc, ◌+◌, ◌*◌, ◌%◌, ◌^◌, ◌-◌, ◌<◌, ◌≤◌, ◌==◌, ℤ, pos, negsuc, ◌+ℤ◌, ◌-ℤ◌, ◌*ℤ◌, ◌≤ℤ◌, ◌<ℤ◌, ◌⊎◌, inl, inr, Bool, true, false, not, ◌&&◌, refl, sym, ◌∙◌, ap, subst, arith, bit_and, bit_or, bit_xor, unsigned_abs, Option, Some, None, Result, Ok, Err, int_div, int_rem, int_le, int_lt, List}
-use Rattle.std.specs.Int.{int_min, int_max, int_shr}
-use Rattle.std.proofs.lemmas.Int.{ints, clamps}
+use Rattle.std.proofs.Common.{◌≡◌, ◌<◌, ℤ, pos, negsuc, ◌+ℤ◌, ◌-ℤ◌, ◌*ℤ◌, ◌≤ℤ◌, inl, inr, subst, arith, unsigned_abs, Option, Some, None, int_div, List}
+use Rattle.std.proofs.lemmas.Int.{ints}
 use Rattle.std.proofs.lemmas.Nat.{mod_below}
 use Rattle.gimple_ir.specs.declared.scalar.Scalar.{Scalar}
 use Rattle.gimple_ir.specs.declared.scalar.Scalar.TheVariants.{I64, U64}
 use Rattle.gimple_ir.specs.declared.scalar.Op.{Op}
 use Rattle.gimple_ir.specs.declared.scalar.Op.TheVariants.{Add, Sub, Mul, Div, Rem, And, Or, Xor, Shl, Shr}
-use Rattle.gimple_core.specs.Operators.{is_signed, in_scalar, kept, of_bits, low_bits, bits_of, modulus_of, least_of, greatest_of, op_of}
-use Rattle.lattice_parts.specs.Sets.{Has}
+use Rattle.gimple_core.specs.Operators.{modulus_of, least_of, greatest_of, op_of}
 use Rattle.value_domain.specs.declared.range.Range.{Range}
-use Rattle.value_domain.specs.Ranges.{InRange, InEach, Within, WithinEach, IsHull, Always, sum_range, difference_range, product_range, quotient_range, FitsRange}
-use Rattle.value_domain.specs.RangeOperators.{IsInside, floor_of, ceiling_of, lowest, highest, rounded, rounded_each, type_range, meet_each, fitted, op_range, remainder_range, and_range, or_range, shr_range}
+use Rattle.value_domain.specs.Ranges.{InRange, InEach, Within, WithinEach, Always, sum_range, difference_range, product_range, quotient_range, FitsRange}
+use Rattle.value_domain.specs.RangeOperators.{IsInside, floor_of, ceiling_of, lowest, highest, rounded, rounded_each, type_range, op_range, remainder_range, and_range, or_range, shr_range}
 use Rattle.value_domain.specs.Thresholds.{IsLawful}
 use Rattle.value_domain.specs.Holding.{IsRight}
 use Rattle.value_domain.proofs.ScalarLemmas.{okay, of_bits_in, type_word, halves}
 use Rattle.value_domain.proofs.RangeLemmas.{hull_monotone, sum_hull, difference_hull, product_hull}
 use Rattle.value_domain.proofs.DivideLemmas.{IsNonZero, quotient_hull}
-use Rattle.value_domain.proofs.RoundingLemmas.{floor_below, floor_monotone, ceiling_above, ceiling_monotone, rounded_monotone, floor_in, ceiling_in, floor_keeps, ceiling_keeps}
-use Rattle.value_domain.proofs.FitSoundness.{fitted_holds, divided_holds, EachInside, IsFullEach, type_inside, meet_inside, fitted_inside, hull_full, fitted_monotone, meet_each_monotone}
+use Rattle.value_domain.proofs.RoundingLemmas.{floor_below, ceiling_above, floor_in, ceiling_in, floor_keeps, ceiling_keeps}
+use Rattle.value_domain.proofs.FitSoundness.{fitted_holds, divided_holds, EachInside, type_inside, meet_inside, fitted_inside, hull_full, fitted_monotone, meet_each_monotone}
 use Rattle.value_domain.proofs.RangeSoundness.{remainder_holds, and_holds, or_holds, xor_holds, shr_holds}
 use Rattle.value_domain.proofs.RangeOrder.{remainder_monotone, remainder_inside, and_inside, and_monotone, or_inside, or_monotone, shr_inside, shr_monotone}
 use Rattle.value_domain.proofs.BitLaws.{add_is, sub_is, mul_is, div_is, rem_is, and_is, or_is, xor_is, shl_is, shr_is}

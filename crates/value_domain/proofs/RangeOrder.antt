@@ -1,5 +1,5 @@
 -- The intervals of `% & | ^ << >>`, of comparisons and of conversions are monotone, and lie in the scalar.
-use Rattle.std.proofs.Common.{cond, ◌≡◌, ℕ, zero, suc, ◌+◌, ◌*◌, ◌^◌, ◌-◌, ◌<◌, ◌≤◌, ℤ, pos, negsuc, ◌+ℤ◌, ◌-ℤ◌, ◌≤ℤ◌, ◌<ℤ◌, ◌⊎◌, inl, inr, Bool, true, false, ◌&&◌, ◌||◌, not, refl, sym, ◌∙◌, ap, subst, int_le, int_lt, arith, unsigned_abs, Option, Some, None}
+use Rattle.std.proofs.Common.{cond, ◌≡◌, ◌^◌, ◌-◌, ℤ, pos, ◌-ℤ◌, ◌≤ℤ◌, ◌<ℤ◌, ◌⊎◌, inl, inr, Bool, true, false, ◌||◌, refl, sym, ◌∙◌, subst, int_le, arith, unsigned_abs, Some, None}
 use Rattle.std.specs.Int.{int_min, int_max}
 use Rattle.std.proofs.lemmas.Int.{ints, clamps}
 use Rattle.gimple_ir.specs.declared.scalar.Scalar.{Scalar}
@@ -7,13 +7,13 @@ use Rattle.gimple_ir.specs.declared.scalar.Cmp.{Cmp}
 use Rattle.gimple_ir.specs.declared.scalar.Cmp.TheVariants.{Eq, Ne, Lt, Le, Gt, Ge}
 use Rattle.gimple_core.specs.Operators.{least_of, greatest_of, cmp_of}
 use Rattle.value_domain.specs.declared.range.Range.{Range}
-use Rattle.value_domain.specs.Ranges.{InRange, Within, WithinEach, whole_unless}
+use Rattle.value_domain.specs.Ranges.{InRange, Within, WithinEach}
 use Rattle.value_domain.specs.RangeOperators.{IsInside, type_range, remainder_within, reach_of, remainder_range, and_range, ones_reaching, or_range, shr_range, surely, opposite, cmp_range, convert_range}
-use Rattle.value_domain.specs.FitLemmas.{Tells, le_tells, unless_cases, whole_monotone}
+use Rattle.value_domain.specs.FitLemmas.{le_tells, unless_cases, whole_monotone}
 use Rattle.value_domain.proofs.ScalarLemmas.{two, both, type_zero, type_word}
 use Rattle.value_domain.proofs.RoundingLemmas.{by_order}
 use Rattle.value_domain.proofs.FitSoundness.{EachInside, type_inside}
-use Rattle.value_domain.proofs.RangeSoundness.{by_range, by_reach, by_both, IsOnes, ones_reach, ones_least, ones_inside, size_within, lt_is, is_lt, surely_holds, opposite_is}
+use Rattle.value_domain.proofs.RangeSoundness.{by_range, by_reach, by_both, ones_reach, ones_least, ones_inside, size_within, lt_is, is_lt, surely_holds, opposite_is}
 
 -- ---- `%`
 size_rises : (s s2 : Range) → s.low ≤ℤ s.high → Within s s2 → reach_of s ≤ℤ reach_of s2

@@ -1,20 +1,20 @@
 -- The intervals of `% & | ^ << >>`, of comparisons and of conversions hold the results.
-use Rattle.std.proofs.Common.{cond, ◌≡◌, ℕ, zero, suc, ◌+◌, ◌*◌, ◌/◌, ◌%◌, ◌^◌, ◌-◌, ◌<◌, ◌≤◌, ℤ, pos, negsuc, neg_ℤ, ◌+ℤ◌, ◌-ℤ◌, ◌≤ℤ◌, ◌<ℤ◌, ◌⊎◌, inl, inr, Bool, true, false, ◌&&◌, ◌||◌, not, refl, sym, ◌∙◌, ap, subst, int_le, int_lt, int_div, int_rem, arith, unsigned_abs, bit_and, bit_or, bit_xor, Option, Some, None}
+use Rattle.std.proofs.Common.{cond, ◌≡◌, ℕ, zero, suc, ◌+◌, ◌/◌, ◌%◌, ◌^◌, ◌-◌, ◌<◌, ◌≤◌, ℤ, pos, negsuc, neg_ℤ, ◌-ℤ◌, ◌≤ℤ◌, ◌<ℤ◌, ◌⊎◌, inl, inr, Bool, true, false, ◌&&◌, ◌||◌, not, refl, sym, ◌∙◌, ap, subst, int_le, int_lt, int_rem, arith, unsigned_abs, bit_and, bit_or, bit_xor, Option, Some, None}
 use Rattle.std.specs.Int.{int_min, int_max, int_shr}
 use Rattle.std.proofs.lemmas.Int.{ints, clamps}
 use Rattle.std.proofs.lemmas.Nat.{mod_below, pow_pos, and_le_l, and_le_r, or_lt, xor_lt}
-use Rattle.std.proofs.Math.Nat.{mod-eq_of_lt, div-le_self, mod-le, pow-suc, pow-le-pow_right}
+use Rattle.std.proofs.Math.Nat.{mod-eq_of_lt, div-le_self, mod-le, pow-le-pow_right}
 use Rattle.std.proofs.lemmas.Bool.{cases_lt}
 use Rattle.gimple_ir.specs.declared.scalar.Scalar.{Scalar}
 use Rattle.gimple_ir.specs.declared.scalar.Cmp.{Cmp}
 use Rattle.gimple_ir.specs.declared.scalar.Cmp.TheVariants.{Eq, Ne, Lt, Le, Gt, Ge}
-use Rattle.gimple_core.specs.Operators.{is_signed, least_of, greatest_of, wrapped, of_bits, low_bits, bits_of, modulus_of, half_of, cmp_of}
+use Rattle.gimple_core.specs.Operators.{is_signed, least_of, greatest_of, wrapped, of_bits, low_bits, bits_of, cmp_of}
 use Rattle.value_domain.specs.declared.range.Range.{Range}
-use Rattle.value_domain.specs.Ranges.{InRange, InEach, whole_unless}
+use Rattle.value_domain.specs.Ranges.{InRange, InEach}
 use Rattle.value_domain.specs.RangeOperators.{type_range, highest, remainder_within, reach_of, remainder_range, and_range, ones_from, ones_reaching, or_range, shr_range, surely, opposite, cmp_range, convert_range}
 use Rattle.value_domain.specs.BitOperators.{truth}
-use Rattle.value_domain.specs.FitLemmas.{Tells, le_tells, unless_cases}
-use Rattle.value_domain.proofs.ScalarLemmas.{two, pos_below, neg_below, of_bits_cases, of_bits_in, low_below, wrapped_in, wrapped_same, halves, type_word, type_zero, signed_ends, unsigned_ends}
+use Rattle.value_domain.specs.FitLemmas.{le_tells, unless_cases}
+use Rattle.value_domain.proofs.ScalarLemmas.{two, pos_below, of_bits_cases, of_bits_in, low_below, wrapped_in, wrapped_same, type_word, type_zero, signed_ends, unsigned_ends}
 use Rattle.value_domain.proofs.RoundingLemmas.{by_order}
 
 -- a choice of intervals by an order

@@ -1,5 +1,5 @@
 -- Taken comparisons: what is left holds the value, and fits.
-use Rattle.std.proofs.Common.{cond, ◌≡◌, ℕ, zero, suc, ◌+◌, ◌^◌, ◌<◌, ◌≤◌, ◌==◌, ℤ, pos, negsuc, ◌+ℤ◌, ◌-ℤ◌, ◌≤ℤ◌, ◌<ℤ◌, ◌⊎◌, inl, inr, Bool, true, false, not, ◌&&◌, refl, sym, ◌∙◌, ap, subst, int_le, int_lt, arith, List, [], ◌∷◌, length, Option, Some, None}
+use Rattle.std.proofs.Common.{cond, ◌≡◌, ℕ, ◌^◌, ◌<◌, ◌==◌, ℤ, ◌≤ℤ◌, ◌<ℤ◌, inl, inr, Bool, true, false, not, ◌&&◌, refl, sym, ◌∙◌, ap, subst, int_le, arith, List, [], ◌∷◌, Option, Some, None}
 use Rattle.std.specs.Int.{int_min, int_max}
 use Rattle.std.proofs.lemmas.Int.{ints, clamps}
 use Rattle.std.proofs.lemmas.Bool.{eqb-true, eq-eqb}
@@ -12,10 +12,9 @@ use Rattle.gimple_ir.specs.declared.value.Object.{Object}
 use Rattle.gimple_ir.specs.declared.value.Object.TheVariants.{Global as GlobalObject, Local as LocalObject}
 use Rattle.gimple_ir.specs.declared.value.Constant.{Constant}
 use Rattle.gimple_ir.specs.declared.value.Constant.TheVariants.{Int, Null, Global}
-use Rattle.gimple_core.specs.Operators.{cmp_of, in_scalar}
+use Rattle.gimple_core.specs.Operators.{cmp_of}
 use Rattle.gimple_core.specs.Memory.{same_object}
-use Rattle.gimple_core.specs.Run.{compares, same_pointer}
-use Rattle.value_domain.specs.declared.bits.Bits.{Bits}
+use Rattle.gimple_core.specs.Run.{compares}
 use Rattle.value_domain.specs.declared.range.Range.{Range}
 use Rattle.value_domain.specs.declared.vals.Vals.{Vals}
 use Rattle.value_domain.specs.declared.vals.Vals.TheVariants.{Any, Nothing, Among}
@@ -24,21 +23,21 @@ use Rattle.lattice_parts.specs.Sets.{same_by}
 use Rattle.lattice_parts.specs.SetLemmas.{same_is}
 use Rattle.value_domain.specs.Constants.{before}
 use Rattle.value_domain.specs.OrderLemmas.{constant_order}
-use Rattle.value_domain.specs.Ranges.{InRange, InEach, Within, WithinEach, FitsRange, meet_range}
-use Rattle.value_domain.specs.RangeOperators.{lowest, highest, allowed, IsInside, type_range, rounded, rounded_each}
-use Rattle.value_domain.specs.FitLemmas.{Tells, le_tells, meet_holds}
+use Rattle.value_domain.specs.Ranges.{InRange, Within, FitsRange, meet_range}
+use Rattle.value_domain.specs.RangeOperators.{lowest, highest, allowed, IsInside, rounded, rounded_each}
+use Rattle.value_domain.specs.FitLemmas.{le_tells, meet_holds}
 use Rattle.value_domain.specs.ConstantOperators.{is_pointer, kept_vals}
-use Rattle.value_domain.specs.AbsOperators.{assembled, unless_none, lies_in, vals_without, ordered_left, refined_proper, refined_of, abs_met, span_of}
-use Rattle.value_domain.specs.Values.{FitsAmong, FitsVals, FitsWith, is_none_val, none_val}
+use Rattle.value_domain.specs.AbsOperators.{assembled, lies_in, vals_without, ordered_left, refined_proper, refined_of, span_of}
+use Rattle.value_domain.specs.Values.{FitsVals, FitsWith, is_none_val}
 use Rattle.value_domain.specs.Thresholds.{IsLawful}
-use Rattle.value_domain.specs.Holding.{Holds, IsAmong, IsListed, constant_of, object_constant, number_part, value_of_scalar, ValsOf, IsOf, PartsOf, mask_width, MayCompare, is_equality}
+use Rattle.value_domain.specs.Holding.{Holds, IsAmong, IsListed, constant_of, value_of_scalar, ValsOf, IsOf, MayCompare, is_equality}
 use Rattle.value_domain.specs.Laws.{RefineHolds, RefineFits}
 use Rattle.value_domain.proofs.ScalarLemmas.{two, both, in_type, type_word}
 use Rattle.value_domain.proofs.RangeSoundness.{lt_is}
 use Rattle.value_domain.proofs.RangeLaws.{round_each_holds, round_inside, round_fits}
 use Rattle.value_domain.proofs.FitSoundness.{EachInside}
 use Rattle.value_domain.proofs.ValsLaws.{MayFit, kept_hold, kept_fit, kept_of}
-use Rattle.value_domain.proofs.WholeLemmas.{width_is, span_is, number_value, ProperOf, none_holds, assembled_holds, unless_proper, GoodParts, IsGood, none_good, assembled_good, unless_good}
+use Rattle.value_domain.proofs.WholeLemmas.{width_is, span_is, number_value, ProperOf, assembled_holds, unless_proper, IsGood, assembled_good, unless_good}
 use Rattle.value_domain.proofs.AbsLaws.{none_or_not, proper_by}
 use Rattle.value_domain.proofs.MeetLaws.{meet_holds_all, meet_fits_all}
 

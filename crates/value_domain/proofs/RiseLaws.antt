@@ -1,5 +1,5 @@
 -- Meets and what taken comparisons leave rise with their sides.
-use Rattle.std.proofs.Common.{cond, ◌≡◌, ℕ, zero, suc, ◌+◌, ◌%◌, ◌^◌, ◌-◌, ◌<◌, ◌≤◌, ◌==◌, min, max, ℤ, pos, negsuc, ◌+ℤ◌, ◌-ℤ◌, ◌≤ℤ◌, ◌<ℤ◌, ◌⊎◌, inl, inr, Bool, true, false, not, ◌&&◌, refl, sym, ◌∙◌, ap, subst, int_le, int_lt, arith, bit_and, bit_or, bit_xor, List, [], ◌∷◌, length, Option, Some, None}
+use Rattle.std.proofs.Common.{cond, ◌≡◌, ℕ, ◌+◌, ◌%◌, ◌<◌, ◌==◌, min, max, ℤ, ◌≤ℤ◌, inl, inr, Bool, true, false, not, refl, sym, ◌∙◌, ap, subst, int_le, arith, bit_or, List, [], ◌∷◌, length, Option, Some, None}
 use Rattle.std.specs.Int.{int_min, int_max, bit_at}
 use Rattle.std.proofs.lemmas.Int.{ints, clamps}
 use Rattle.std.proofs.lemmas.Bool.{eqb-true, eq-eqb, le-leb}
@@ -9,8 +9,8 @@ use Rattle.gimple_ir.specs.declared.scalar.Cmp.{Cmp}
 use Rattle.gimple_ir.specs.declared.scalar.Cmp.TheVariants.{Eq, Ne, Lt, Le, Gt, Ge}
 use Rattle.gimple_ir.specs.declared.value.Constant.{Constant}
 use Rattle.gimple_ir.specs.declared.value.Constant.TheVariants.{Int, Null, Global}
-use Rattle.lattice_parts.specs.Sets.{Has, Ascending, Subset, has_by, same_by, kept_members}
-use Rattle.lattice_parts.specs.SetLemmas.{is_has, has_is, subset_is, is_subset, kept_from, kept_monotone, kept_ascends}
+use Rattle.lattice_parts.specs.Sets.{Subset, has_by, same_by, kept_members}
+use Rattle.lattice_parts.specs.SetLemmas.{is_has, has_is, subset_is, is_subset, kept_from, kept_ascends}
 use Rattle.value_domain.specs.declared.bits.Bits.{Bits}
 use Rattle.value_domain.specs.declared.range.Range.{Range}
 use Rattle.value_domain.specs.declared.vals.Vals.{Vals}
@@ -20,14 +20,14 @@ use Rattle.value_domain.specs.Constants.{before}
 use Rattle.value_domain.specs.OrderLemmas.{constant_order}
 use Rattle.value_domain.specs.Bitmasks.{IsBits, AreBelow, conflict, bits_met}
 use Rattle.value_domain.specs.BitsLemmas.{bit_agrees, bit_below}
-use Rattle.value_domain.specs.Ranges.{InRange, Within, WithinEach, FitsRange, meet_range}
-use Rattle.value_domain.specs.RangeOperators.{lowest, highest, allowed, IsInside, rounded, rounded_each}
-use Rattle.value_domain.specs.FitLemmas.{Tells, le_tells}
-use Rattle.value_domain.specs.ConstantOperators.{is_pointer, vals_of, kept_vals}
-use Rattle.value_domain.specs.AbsOperators.{assembled, unless_none, vals_met, abs_met, lies_in, single_of, left_without, vals_without, ordered_left, refined_proper, refined_of}
+use Rattle.value_domain.specs.Ranges.{Within, WithinEach, FitsRange, meet_range}
+use Rattle.value_domain.specs.RangeOperators.{allowed, rounded_each}
+use Rattle.value_domain.specs.FitLemmas.{le_tells}
+use Rattle.value_domain.specs.ConstantOperators.{vals_of, kept_vals}
+use Rattle.value_domain.specs.AbsOperators.{assembled, vals_met, abs_met, lies_in, single_of, left_without, vals_without, ordered_left, refined_proper, refined_of}
 use Rattle.value_domain.specs.Values.{FitsAmong, FitsVals, FitsWith, vals_below, is_none_val, none_val, abs_val_below}
 use Rattle.value_domain.specs.Thresholds.{IsLawful}
-use Rattle.value_domain.specs.Holding.{IsOf, MayCompare, is_equality}
+use Rattle.value_domain.specs.Holding.{MayCompare, is_equality}
 use Rattle.value_domain.specs.Laws.{MeetRises, RefineRises}
 use Rattle.value_domain.proofs.ScalarLemmas.{two, both}
 use Rattle.value_domain.proofs.BitOrder.{conflict_stays}
@@ -36,7 +36,7 @@ use Rattle.value_domain.proofs.RoundingLemmas.{rounded_monotone}
 use Rattle.value_domain.proofs.FitSoundness.{EachInside}
 use Rattle.value_domain.proofs.ValsLaws.{Rises, any_rises, of_rises, kept_rise}
 use Rattle.value_domain.proofs.WholeLemmas.{ProperOf, PartsBelow, assembled_rises, unless_rises, IsFullOption}
-use Rattle.value_domain.proofs.AbsLaws.{none_or_not, proper_by}
+use Rattle.value_domain.proofs.AbsLaws.{proper_by}
 use Rattle.value_domain.proofs.RefineLaws.{left_inside, int_order}
 
 -- ---- sets

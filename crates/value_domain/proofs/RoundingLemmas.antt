@@ -1,12 +1,12 @@
 -- Rounding down is below, monotone, and leaves thresholds alone; rounding up likewise.
-use Rattle.std.proofs.Common.{length, get_or, ◌+◌, ◌≡◌, ℕ, zero, suc, ◌<◌, ◌≤◌, ℤ, pos, negsuc, ◌≤ℤ◌, ◌<ℤ◌, ◌⊎◌, inl, inr, Bool, true, false, refl, sym, ◌∙◌, ap, subst, cond, int_le, int_lt, arith, List, [], ◌∷◌, Option, Some, None}
+use Rattle.std.proofs.Common.{length, get_or, ◌+◌, ◌≡◌, ℕ, zero, suc, ◌<◌, ◌≤◌, ℤ, pos, ◌≤ℤ◌, ◌<ℤ◌, ◌⊎◌, inl, inr, Bool, true, false, refl, cond, int_le, arith, List, [], ◌∷◌, Option, Some, None}
 use Rattle.std.specs.Int.{int_min, int_max}
 use Rattle.std.proofs.lemmas.Int.{ints, clamps}
 use Rattle.value_domain.specs.declared.range.Range.{Range}
-use Rattle.value_domain.specs.Ranges.{InRange, Within, WithinEach, InEach}
-use Rattle.value_domain.specs.RangeOperators.{floor_of, ceiling_of, lowest, highest, rounded, rounded_each, IsRising, Searched}
+use Rattle.value_domain.specs.Ranges.{WithinEach}
+use Rattle.value_domain.specs.RangeOperators.{floor_of, ceiling_of, lowest, highest, rounded_each, IsRising, Searched}
 use Rattle.std.proofs.lemmas.Bool.{cases_lt}
-use Rattle.value_domain.specs.FitLemmas.{Tells, le_tells, picked_min, picked_max}
+use Rattle.value_domain.specs.FitLemmas.{le_tells, picked_min, picked_max}
 use Rattle.lattice_parts.specs.Sets.{Has}
 
 -- a choice by an order

@@ -1,8 +1,8 @@
 -- Lawful thresholds by index.
-use Rattle.std.proofs.Common.{length, get_or, ◌+◌, ◌-◌, ◌≡◌, ℕ, zero, suc, ◌<◌, ◌≤◌, ℤ, pos, ◌≤ℤ◌, ◌<ℤ◌, ◌⊎◌, inl, inr, Bool, true, false, refl, sym, ◌∙◌, ap, subst, int_lt, arith, List, [], ◌∷◌}
+use Rattle.std.proofs.Common.{length, get_or, ◌-◌, ◌≡◌, ℕ, zero, suc, ◌<◌, ◌≤◌, ℤ, pos, ◌≤ℤ◌, ◌<ℤ◌, ◌⊎◌, inl, inr, refl, sym, ◌∙◌, subst, int_lt, arith, List, [], ◌∷◌}
 use Rattle.std.proofs.lemmas.Int.{ints}
 use Rattle.std.proofs.lemmas.Bool.{cases_lt}
-use Rattle.lattice_parts.specs.Sets.{Has, Above, Ascending, Each}
+use Rattle.lattice_parts.specs.Sets.{Has, Above, Ascending}
 use Rattle.value_domain.specs.RangeOperators.{IsRising, lowest, highest}
 use Rattle.value_domain.specs.Thresholds.{IsLawful}
 use Rattle.value_domain.specs.RangeOperators.{ceiling_of}

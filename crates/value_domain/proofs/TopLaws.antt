@@ -1,5 +1,5 @@
 -- The value of a scalar that holds each value of it.
-use Rattle.std.proofs.Common.{cond, ◌≡◌, ℕ, ◌+◌, ◌^◌, ◌<◌, ◌≤◌, ℤ, pos, ◌≤ℤ◌, ◌⊎◌, inl, inr, Bool, true, false, not, ◌&&◌, refl, sym, ◌∙◌, ap, subst, arith, List, Some}
+use Rattle.std.proofs.Common.{cond, ◌≡◌, pos, Bool, true, false, not, ◌&&◌, refl, subst, arith, Some}
 use Rattle.std.proofs.lemmas.Int.{ints}
 use Rattle.std.proofs.lemmas.Nat.{pow_pos}
 use Rattle.gimple_ir.specs.declared.scalar.Scalar.{Scalar}
@@ -7,19 +7,17 @@ use Rattle.gimple_ir.specs.declared.value.Value.{Value}
 use Rattle.gimple_ir.specs.declared.value.Value.TheVariants.{Int as Number, Null as NullPointer, At}
 use Rattle.gimple_core.specs.Operators.{in_scalar}
 use Rattle.value_domain.specs.declared.vals.Vals.TheVariants.{Any}
-use Rattle.value_domain.specs.declared.range.Range.{Range}
 use Rattle.value_domain.specs.Bitmasks.{pattern}
 use Rattle.value_domain.specs.Ranges.{InRange, Within, FitsRange}
 use Rattle.value_domain.specs.RangeOperators.{type_range}
 use Rattle.value_domain.specs.BitOperators.{unknown_bits}
 use Rattle.value_domain.specs.ConstantOperators.{is_pointer}
-use Rattle.value_domain.specs.AbsOperators.{assembled, span_of, zero_range, top_of}
-use Rattle.value_domain.specs.Thresholds.{IsLawful}
-use Rattle.value_domain.specs.Holding.{Holds, number_part, value_of_scalar, mask_width}
+use Rattle.value_domain.specs.AbsOperators.{span_of, zero_range}
+use Rattle.value_domain.specs.Holding.{number_part, value_of_scalar, mask_width}
 use Rattle.value_domain.specs.Laws.{TopHolds, TopFits}
-use Rattle.value_domain.proofs.ScalarLemmas.{two, in_type, type_zero}
+use Rattle.value_domain.proofs.ScalarLemmas.{in_type, type_zero}
 use Rattle.value_domain.proofs.BitSoundness.{unknown_holds}
-use Rattle.value_domain.proofs.WholeLemmas.{GoodParts, assembled_good, number_value}
+use Rattle.value_domain.proofs.WholeLemmas.{assembled_good}
 
 zero_in : InRange (pos 0) zero_range
 zero_in = record { from = omega (arith, ints); to = omega (arith, ints) }

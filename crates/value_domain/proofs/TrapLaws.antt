@@ -1,5 +1,5 @@
 -- Where no trap is left open, an operator does not trap.
-use Rattle.std.proofs.Common.{cond, ◌≡◌, ℕ, zero, suc, ◌+◌, ◌-◌, ◌/◌, ◌*◌, ◌%◌, ◌^◌, ◌<◌, ◌≤◌, ◌==◌, ℤ, pos, negsuc, neg_ℤ, ◌+ℤ◌, ◌-ℤ◌, ◌*ℤ◌, ◌≤ℤ◌, ◌<ℤ◌, ◌⊎◌, inl, inr, Bool, true, false, not, ◌&&◌, ◌||◌, refl, sym, ◌∙◌, ap, subst, int_le, int_lt, int_div, int_rem, arith, unsigned_abs, bit_and, bit_or, bit_xor, List, [], ◌∷◌, Option, Some, None, Result, Ok, Err}
+use Rattle.std.proofs.Common.{cond, ◌≡◌, ℕ, zero, suc, ◌+◌, ◌-◌, ◌/◌, ◌*◌, ◌%◌, ◌^◌, ◌<◌, ◌≤◌, ◌==◌, ℤ, pos, negsuc, ◌+ℤ◌, ◌-ℤ◌, ◌*ℤ◌, ◌≤ℤ◌, ◌<ℤ◌, ◌⊎◌, inl, inr, Bool, true, false, not, ◌&&◌, ◌||◌, refl, sym, ◌∙◌, ap, subst, int_le, int_lt, int_div, int_rem, arith, unsigned_abs, bit_and, bit_or, bit_xor, List, [], ◌∷◌, Option, Some, None, Result, Ok, Err}
 use Rattle.std.specs.Int.{int_shr}
 use Rattle.std.proofs.lemmas.Int.{ints}
 use Rattle.std.proofs.Math.Nat.{div-le_self, div-mul-le_self}
@@ -7,35 +7,34 @@ use Rattle.std.proofs.Math.Dec.{eqb-suc-zero}
 use Rattle.std.proofs.lemmas.Nat.{mul-le}
 use Rattle.std.proofs.lemmas.Bool.{cases_lt}
 use Rattle.gimple_ir.specs.declared.scalar.Scalar.{Scalar}
-use Rattle.gimple_ir.specs.declared.scalar.Scalar.TheVariants.{I64, Ptr}
+use Rattle.gimple_ir.specs.declared.scalar.Scalar.TheVariants.{Ptr}
 use Rattle.gimple_ir.specs.declared.scalar.Op.{Op}
 use Rattle.gimple_ir.specs.declared.scalar.Op.TheVariants.{Add, Sub, Mul, Div, Rem, And, Or, Xor, Shl, Shr}
 use Rattle.gimple_ir.specs.declared.value.TrapKind.{TrapKind}
 use Rattle.gimple_ir.specs.declared.value.TrapKind.TheVariants.{Overflow, Divide, Shift}
 use Rattle.gimple_ir.specs.declared.value.Value.{Value}
-use Rattle.gimple_ir.specs.declared.value.Value.TheVariants.{Int as Number, Null as NullPointer, At}
+use Rattle.gimple_ir.specs.declared.value.Value.TheVariants.{Int as Number}
 use Rattle.gimple_ir.specs.declared.value.Constant.{Constant}
-use Rattle.gimple_ir.specs.declared.value.Constant.TheVariants.{Int, Null, Global}
+use Rattle.gimple_ir.specs.declared.value.Constant.TheVariants.{Int}
 use Rattle.gimple_core.specs.Operators.{is_signed, in_scalar, kept, wrapped, of_bits, low_bits, bits_of, modulus_of, half_of, least_of, greatest_of, is_count, op_of, unless_not}
 use Rattle.gimple_core.specs.Memory.{moved_by}
-use Rattle.gimple_core.specs.Run.{arith_of, any_number, value_result}
+use Rattle.gimple_core.specs.Run.{arith_of, any_number}
 use Rattle.lattice_parts.specs.Sets.{Has}
 use Rattle.value_domain.specs.declared.range.Range.{Range}
 use Rattle.value_domain.specs.declared.vals.Vals.{Vals}
 use Rattle.value_domain.specs.declared.vals.Vals.TheVariants.{Any, Nothing, Among}
-use Rattle.value_domain.specs.declared.abs_val.AbsVal.{AbsVal}
-use Rattle.value_domain.specs.Ranges.{InRange, InEach, IsHull, Always, sum_range, difference_range, product_range}
-use Rattle.value_domain.specs.RangeOperators.{type_range, IsInside}
-use Rattle.value_domain.specs.FitLemmas.{Tells, le_tells}
+use Rattle.value_domain.specs.Ranges.{InRange, InEach, sum_range, difference_range, product_range}
+use Rattle.value_domain.specs.RangeOperators.{type_range}
+use Rattle.value_domain.specs.FitLemmas.{le_tells}
 use Rattle.value_domain.specs.ConstantOperators.{is_pointer, may_stand_right}
 use Rattle.value_domain.specs.AbsOperators.{is_trap, pair_traps, row_traps_of, some_traps, vals_trap, lies_outside, has_number, division_traps, count_traps, range_traps, may_trap_of}
-use Rattle.value_domain.specs.Values.{FitsWith, is_none_val}
-use Rattle.value_domain.specs.Holding.{Holds, IsAmong, constant_of, value_of_scalar, IsOf, IsRight, IsAllowed}
+use Rattle.value_domain.specs.Values.{is_none_val}
+use Rattle.value_domain.specs.Holding.{Holds, IsAmong, IsRight}
 use Rattle.value_domain.specs.Laws.{NoTrap, done}
-use Rattle.value_domain.proofs.ScalarLemmas.{okay, two, both, in_type, in_type_is, signed_ends, halves, pos_below, neg_below, type_zero}
+use Rattle.value_domain.proofs.ScalarLemmas.{okay, two, both, in_type, in_type_is, signed_ends, pos_below, neg_below, type_zero}
 use Rattle.value_domain.proofs.RangeLemmas.{sum_hull, difference_hull, product_hull}
 use Rattle.value_domain.proofs.RangeSoundness.{is_lt, lt_is}
-use Rattle.value_domain.proofs.WholeLemmas.{number_value, ProperOf}
+use Rattle.value_domain.proofs.WholeLemmas.{number_value}
 use Rattle.value_domain.proofs.OperatorLaws.{stands, arith_back}
 use Rattle.value_domain.proofs.CodeLemmas.{right_int}
 use Rattle.value_domain.proofs.AbsLaws.{none_or_not, proper_by, is_ptr}

@@ -1,19 +1,17 @@
 -- The bits of whole numbers in two's complement, without end.
-use Rattle.std.proofs.Common.{cond, ◌≡◌, ℕ, zero, suc, ◌+◌, ◌*◌, ◌/◌, ◌%◌, ◌^◌, ◌-◌, ◌<◌, ◌≤◌, min, max, ℤ, pos, negsuc, ◌≤ℤ◌, ◌<ℤ◌, ◌-ℤ◌, ◌⊎◌, inl, inr, Bool, true, false, ◌&&◌, not, refl, sym, ◌∙◌, ap, subst, int_le, int_lt, arith, bit_and, lit<}
-use Rattle.std.specs.Int.{bit_at, Width, w8, w16, w32, w64, int_shr, bit_not}
-use Rattle.std.proofs.lemmas.Int.{ints}
-use Rattle.std.proofs.lemmas.Bool.{cases_lt}
+use Rattle.std.proofs.Common.{cond, ◌≡◌, ℕ, ◌+◌, ◌*◌, ◌/◌, ◌%◌, ◌^◌, ◌-◌, ◌<◌, ◌≤◌, ℤ, pos, negsuc, ◌-ℤ◌, Bool, true, false, refl, sym, ◌∙◌, ap, arith}
+use Rattle.std.specs.Int.{bit_at, Width, w8, w16, w32, w64, int_shr}
 use Rattle.std.proofs.lemmas.Nat.{mod_below, div-add-mod', pow_pos}
-use Rattle.std.proofs.lemmas.Nat.Bits.{bit_at_and, bit_at-lt, bit_at-zero, bit_at_not, bit_at_above, bit_at_cat_low, bit_at_cat_high, same_from_bits, same_from_bits_below}
+use Rattle.std.proofs.lemmas.Nat.Bits.{bit_at-lt, bit_at_not, bit_at_above, bit_at_cat_low, bit_at_cat_high}
 use Rattle.gimple_ir.specs.declared.scalar.Scalar.{Scalar}
 use Rattle.gimple_ir.specs.declared.scalar.Scalar.TheVariants.{I8, I16, I32, I64, U8, U16, U32, U64, Ptr}
 use Rattle.gimple_core.specs.Operators.{is_signed, wrapped, of_bits, low_bits, bits_of, modulus_of, half_of}
 use Rattle.value_domain.specs.declared.bits.Bits.{Bits}
 use Rattle.value_domain.specs.Ranges.{InRange}
 use Rattle.value_domain.specs.RangeOperators.{type_range}
-use Rattle.value_domain.specs.Bitmasks.{pattern, Agrees}
+use Rattle.value_domain.specs.Bitmasks.{pattern}
 use Rattle.value_domain.specs.BitOperators.{mask_above, value_above}
-use Rattle.value_domain.proofs.ScalarLemmas.{of_bits_cases, turned, low_below, wrapped_is, halves, pos_below, neg_below, wrapped_in, width_bound}
+use Rattle.value_domain.proofs.ScalarLemmas.{of_bits_cases, turned, low_below, wrapped_is, halves, pos_below, neg_below, wrapped_in}
 
 abbrev pub bit_of : ℤ → ℕ → ℕ
 bit_of (pos n) i = bit_at n i

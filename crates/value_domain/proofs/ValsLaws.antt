@@ -1,17 +1,16 @@
 -- Sets of results hold the results, are monotone and fit.
-use Rattle.std.proofs.Common.{cond, ◌≡◌, ℕ, zero, suc, ◌+◌, ◌-◌, ◌<◌, ◌≤◌, ◌⊎◌, inl, inr, Bool, true, false, not, ◌&&◌, ◌||◌, refl, sym, ◌∙◌, ap, subst, arith, List, [], ◌∷◌, length, leb, Option, Some, None}
+use Rattle.std.proofs.Common.{cond, ◌≡◌, ℕ, ◌<◌, ◌≤◌, ◌⊎◌, inl, inr, Bool, true, false, refl, sym, ◌∙◌, ap, subst, arith, List, [], ◌∷◌, length, leb, Option, Some, None}
 use Rattle.std.proofs.lemmas.Bool.{leb-true, leb-false}
 use Rattle.gimple_ir.specs.declared.value.Constant.{Constant}
-use Rattle.lattice_parts.specs.Sets.{Has, Ascending, Subset, Each, has_by, gathered, mapped, kept_members, same_by}
-use Rattle.lattice_parts.specs.SetLemmas.{same_or_shorter, is_subset, subset_is, gathered_ascends, gathered_holds, gathered_monotone, gathered_from, mapped_ascends, mapped_holds, mapped_monotone, mapped_from, kept_holds, kept_from, kept_monotone, kept_ascends, kept_shorter}
+use Rattle.lattice_parts.specs.Sets.{Has, Ascending, Subset, Each, gathered, mapped, kept_members}
+use Rattle.lattice_parts.specs.SetLemmas.{same_or_shorter, is_subset, subset_is, gathered_ascends, gathered_holds, gathered_monotone, gathered_from, mapped_ascends, mapped_holds, mapped_monotone, mapped_from, kept_holds, kept_from, kept_monotone, kept_ascends}
 use Rattle.value_domain.specs.declared.vals.Vals.{Vals}
 use Rattle.value_domain.specs.declared.vals.Vals.TheVariants.{Any, Nothing, Among}
 use Rattle.value_domain.specs.Constants.{before}
 use Rattle.value_domain.specs.OrderLemmas.{constant_order}
-use Rattle.value_domain.specs.Values.{finite_of, FitsAmong, FitsVals, vals_below, vals_capped}
-use Rattle.value_domain.specs.ValueLemmas.{longer}
+use Rattle.value_domain.specs.Values.{FitsAmong, FitsVals, vals_below, vals_capped}
 use Rattle.value_domain.specs.ConstantOperators.{vals_of, pairs_vals, mapped_vals, kept_vals, constant_in}
-use Rattle.value_domain.specs.Holding.{IsListed, IsAmong, ValsOf}
+use Rattle.value_domain.specs.Holding.{IsAmong, ValsOf}
 use Rattle.gimple_ir.specs.declared.scalar.Scalar.{Scalar}
 
 -- a set that fits, or none

@@ -1,30 +1,27 @@
 -- Values made of parts: what they hold, their order, and that they fit.
-use Rattle.std.proofs.Common.{cond, ◌≡◌, ℕ, zero, suc, ◌+◌, ◌^◌, ◌<◌, ◌≤◌, ℤ, pos, negsuc, ◌≤ℤ◌, ◌<ℤ◌, ◌⊎◌, inl, inr, Bool, true, false, not, ◌&&◌, refl, sym, ◌∙◌, ap, subst, arith, int_lt, List, Option, Some, None}
+use Rattle.std.proofs.Common.{cond, ◌≡◌, ℕ, ◌^◌, ◌<◌, ◌≤◌, ℤ, ◌≤ℤ◌, ◌⊎◌, inl, inr, Bool, true, false, ◌&&◌, refl, sym, ◌∙◌, subst, arith, int_lt, List, Option, Some, None}
 use Rattle.std.proofs.lemmas.Int.{ints}
 use Rattle.std.proofs.Math.Nat.{pow-le-pow_right}
 use Rattle.gimple_ir.specs.declared.scalar.Scalar.{Scalar}
-use Rattle.gimple_ir.specs.declared.scalar.Scalar.TheVariants.{I8, I16, I32, I64, U8, U16, U32, U64, Ptr}
 use Rattle.gimple_ir.specs.declared.value.Value.{Value}
 use Rattle.gimple_ir.specs.declared.value.Value.TheVariants.{Int as Number, Null as NullPointer, At}
-use Rattle.gimple_core.specs.Operators.{in_scalar, bits_of, modulus_of}
-use Rattle.lattice_parts.specs.Parts.{IsNone, IsProper, FitsParts}
+use Rattle.gimple_core.specs.Operators.{in_scalar, bits_of}
 use Rattle.value_domain.specs.declared.bits.Bits.{Bits}
 use Rattle.value_domain.specs.declared.range.Range.{Range}
 use Rattle.value_domain.specs.declared.vals.Vals.{Vals}
 use Rattle.value_domain.specs.declared.vals.Vals.TheVariants.{Any, Nothing, Among}
 use Rattle.value_domain.specs.declared.abs_val.AbsVal.{AbsVal}
-use Rattle.value_domain.specs.Bitmasks.{pattern, Agrees, AreBelow, IsBits, FitsBits, bits_below}
+use Rattle.value_domain.specs.Bitmasks.{pattern, Agrees, AreBelow, IsBits, bits_below}
 use Rattle.value_domain.specs.BitsPart.{is_below, below_is}
-use Rattle.value_domain.specs.Ranges.{InRange, InEach, Within, WithinEach, FitsRange, range_below, is_bare}
+use Rattle.value_domain.specs.Ranges.{InEach, Within, WithinEach, FitsRange, range_below, is_bare}
 use Rattle.value_domain.specs.RangePart.{within_is, is_within}
 use Rattle.value_domain.specs.RangeOperators.{type_range, IsInside}
-use Rattle.value_domain.specs.BitOperators.{unknown_bits}
 use Rattle.value_domain.specs.ConstantOperators.{is_pointer}
-use Rattle.value_domain.specs.AbsOperators.{assembled, unless_none, span_of, zero_range}
-use Rattle.value_domain.specs.Values.{none_val, is_none_val, parts_of, FitsVals, FitsWith, vals_below, abs_val_below}
+use Rattle.value_domain.specs.AbsOperators.{assembled, unless_none, span_of}
+use Rattle.value_domain.specs.Values.{none_val, is_none_val, FitsVals, FitsWith, vals_below, abs_val_below}
 use Rattle.value_domain.specs.ValueLemmas.{abs_apart}
-use Rattle.value_domain.specs.Holding.{Holds, IsAmong, constant_of, number_part, value_of_scalar, mask_width, ValsOf, PartsOf, IsOf}
-use Rattle.value_domain.proofs.ScalarLemmas.{two, in_type, width_bound}
+use Rattle.value_domain.specs.Holding.{Holds, IsAmong, constant_of, number_part, value_of_scalar, mask_width, ValsOf, IsOf}
+use Rattle.value_domain.proofs.ScalarLemmas.{two, width_bound}
 use Rattle.value_domain.proofs.AgreeLemmas.{BitsOf}
 use Rattle.value_domain.proofs.ValsLaws.{MayFit, Rises}
 

@@ -1,13 +1,13 @@
 -- The operators on abstract values.
-use Rattle.std.specs.Prelude.{◌≡◌, ℕ, ◌+◌, ◌%◌, ◌^◌, ◌==◌, ◌<◌, ℤ, pos, negsuc, ◌-ℤ◌, Bool, true, false, not, ◌&&◌, ◌||◌, int_le, int_lt, if◌then◌else◌, List, [], ◌∷◌, Option, Some, None, Result, Ok, Err}
+use Rattle.std.specs.Prelude.{ℕ, ◌%◌, ℤ, pos, negsuc, Bool, true, false, not, ◌&&◌, ◌||◌, int_le, int_lt, if◌then◌else◌, List, [], ◌∷◌, Option, Some, None, Result, Ok, Err}
 use Rattle.gimple_ir.specs.declared.scalar.Scalar.{Scalar}
 use Rattle.gimple_ir.specs.declared.scalar.Op.{Op}
 use Rattle.gimple_ir.specs.declared.scalar.Op.TheVariants.{Add, Sub, Mul, Div, Rem, And, Or, Xor, Shl, Shr}
 use Rattle.gimple_ir.specs.declared.scalar.Cmp.{Cmp}
-use Rattle.gimple_ir.specs.declared.scalar.Cmp.TheVariants.{Eq, Ne, Lt, Le, Gt, Ge}
+use Rattle.gimple_ir.specs.declared.scalar.Cmp.TheVariants.{Eq, Ne}
 use Rattle.gimple_ir.specs.declared.value.TrapKind.{TrapKind}
 use Rattle.gimple_ir.specs.declared.value.Constant.{Constant}
-use Rattle.gimple_ir.specs.declared.value.Constant.TheVariants.{Int, Null, Global}
+use Rattle.gimple_ir.specs.declared.value.Constant.TheVariants.{Int}
 use Rattle.gimple_core.specs.Operators.{is_signed, bits_of, modulus_of, in_scalar, least_of, op_of}
 use Rattle.lattice_parts.specs.Sets.{has_by, same_by}
 use Rattle.value_domain.specs.declared.bits.Bits.{Bits}

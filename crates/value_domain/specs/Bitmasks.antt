@@ -1,5 +1,5 @@
 -- Known bits of numbers.
-use Rattle.std.specs.Prelude.{◌≡◌, ℕ, ◌+◌, ◌-◌, ◌*◌, ◌%◌, ◌^◌, ◌<◌, ◌==◌, ℤ, pos, bit_and, bit_or, bit_xor, unsigned_abs, Bool, true, false, ◌&&◌, if◌then◌else◌, Option, Some, None}
+use Rattle.std.specs.Prelude.{◌≡◌, ℕ, ◌^◌, ◌<◌, ◌==◌, ℤ, pos, bit_and, bit_or, bit_xor, unsigned_abs, Bool, ◌&&◌, if◌then◌else◌, Option, Some, None}
 use Rattle.std.specs.Int.{int_rem_euclid, bit_at}
 use Rattle.fix_engine.specs.Solving.{sum_below}
 use Rattle.value_domain.specs.declared.bits.Bits.{Bits}

@@ -1,11 +1,9 @@
 -- Operators on known bits are sound.
-use Rattle.std.proofs.Common.{cond, ◌≡◌, ℕ, zero, suc, ◌+◌, ◌-◌, ◌*◌, ◌/◌, ◌%◌, ◌^◌, ◌<◌, ◌≤◌, min, max, ℤ, pos, negsuc, Bool, true, false, refl, sym, ◌∙◌, ap, subst, arith, bit_and, bit_or, bit_xor, unsigned_abs}
-use Rattle.std.specs.Int.{bit_at, w64, int_rem_euclid}
+use Rattle.std.proofs.Common.{◌≡◌, ℕ, ◌+◌, ◌%◌, ◌<◌, min, max, sym, ◌∙◌, ap, arith, bit_and, bit_or, bit_xor}
+use Rattle.std.specs.Int.{bit_at}
 use Rattle.std.proofs.lemmas.Nat.Bits.{bit_at_and, bit_at_or, bit_at_xor, bit_at-lt, same_from_bits}
-use Rattle.std.proofs.lemmas.Nat.{and_mod, and_mask, mul-mod}
-use Rattle.std.proofs.Math.Nat.{add-mod, mod-mod}
 use Rattle.value_domain.specs.declared.bits.Bits.{Bits}
-use Rattle.value_domain.specs.Bitmasks.{Agrees, IsBits, and_known, or_known, xor_known, conflict, bits_joined, bits_below, AreBelow}
+use Rattle.value_domain.specs.Bitmasks.{Agrees, IsBits, and_known, or_known, xor_known, bits_joined, AreBelow}
 
 and_row : (x y p q u v : ℕ) → x < 2 → y < 2 → p < 2 → q < 2 → min x p ≡ u → min y q ≡ v → min (min x y) (max (max (min p q) ((p + u) % 2)) ((q + v) % 2)) ≡ min u v
 and_row x y p q u v a b c d e f = omega arith

@@ -1,13 +1,13 @@
 -- The laws of known bits.
-use Rattle.std.proofs.Common.{cond, ◌≡◌, ◌≢◌, ℕ, zero, suc, ◌+◌, ◌-◌, ◌%◌, ◌^◌, ◌<◌, ◌≤◌, ◌⊎◌, inl, inr, min, max, Bool, true, false, ◌&&◌, ◌==◌, refl, sym, ◌∙◌, ap, subst, arith, bit_and, bit_or, bit_xor}
+use Rattle.std.proofs.Common.{◌≡◌, ℕ, zero, suc, ◌+◌, ◌%◌, ◌<◌, ◌≤◌, ◌⊎◌, inl, inr, min, Bool, true, false, ◌&&◌, refl, sym, ◌∙◌, ap, subst, arith, bit_and, bit_xor}
 use Rattle.std.specs.Int.{bit_at}
-use Rattle.std.proofs.lemmas.Nat.Bits.{bit_at_and, bit_at_or, bit_at_xor, bit_at-lt, same_from_bits, same_from_bits_below}
+use Rattle.std.proofs.lemmas.Nat.Bits.{bit_at_and, bit_at_xor, bit_at-lt, same_from_bits, same_from_bits_below}
 use Rattle.std.proofs.lemmas.Nat.{xor_lt, and_le_l, and_comm}
 use Rattle.std.proofs.lemmas.Bool.{eqb-true, eq-eqb, cases_lt}
 use Rattle.fix_engine.specs.Solving.{sum_below}
 use Rattle.fix_engine.proofs.Work.{sum_below_bound}
 use Rattle.value_domain.specs.declared.bits.Bits.{Bits}
-use Rattle.value_domain.specs.Bitmasks.{Agrees, IsBits, conflict, bits_joined, bits_below, AreBelow, FitsBits, bits_rank}
+use Rattle.value_domain.specs.Bitmasks.{IsBits, conflict, bits_joined, bits_below, AreBelow, FitsBits, bits_rank}
 use Rattle.lattice_parts.specs.Parts.{PartLaws}
 use Rattle.value_domain.specs.BitsLemmas.{bit_agrees, bit_below, join_above_left, join_least}
 

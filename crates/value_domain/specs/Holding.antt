@@ -1,11 +1,11 @@
 -- Which values an abstract value holds, and which abstract values are of a scalar.
-use Rattle.std.specs.Prelude.{◌≡◌, ℕ, ◌^◌, ◌<◌, ◌⊎◌, ℤ, pos, Bool, true, false, not, ◌&&◌, if◌then◌else◌, List, [], ◌∷◌, Option, Some, None}
+use Rattle.std.specs.Prelude.{◌≡◌, ℕ, ◌^◌, ◌<◌, ◌⊎◌, ℤ, pos, Bool, true, false, not, ◌&&◌, if◌then◌else◌, List, Option, Some, None}
 use Rattle.gimple_ir.specs.declared.scalar.Scalar.{Scalar}
 use Rattle.gimple_ir.specs.declared.scalar.Scalar.TheVariants.{I64}
 use Rattle.gimple_ir.specs.declared.scalar.Op.{Op}
 use Rattle.gimple_ir.specs.declared.scalar.Op.TheVariants.{Add, Shl, Shr}
 use Rattle.gimple_ir.specs.declared.scalar.Cmp.{Cmp}
-use Rattle.gimple_ir.specs.declared.scalar.Cmp.TheVariants.{Eq, Ne, Lt, Le, Gt, Ge}
+use Rattle.gimple_ir.specs.declared.scalar.Cmp.TheVariants.{Eq, Ne}
 use Rattle.gimple_ir.specs.declared.value.Object.{Object}
 use Rattle.gimple_ir.specs.declared.value.Object.TheVariants.{Global as GlobalObject, Local as LocalObject}
 use Rattle.gimple_ir.specs.declared.value.Value.{Value}

@@ -1,5 +1,5 @@
 -- Intervals of results, and rounding outwards to thresholds.
-use Rattle.std.specs.Prelude.{◌<◌, ◌≤◌, length, slice_index_or, ◌-◌, ◌^◌, Option, Some, None, ◌≡◌, ℕ, zero, suc, ℤ, pos, negsuc, ◌+ℤ◌, ◌-ℤ◌, ◌≤ℤ◌, ◌<ℤ◌, Bool, true, false, ◌||◌, ◌&&◌, int_le, int_lt, unsigned_abs, if◌then◌else◌, List, [], ◌∷◌}
+use Rattle.std.specs.Prelude.{◌<◌, ◌≤◌, length, slice_index_or, ◌-◌, ◌^◌, Option, Some, None, ℕ, zero, suc, ℤ, pos, negsuc, ◌+ℤ◌, ◌-ℤ◌, ◌≤ℤ◌, ◌<ℤ◌, Bool, ◌||◌, ◌&&◌, int_le, int_lt, unsigned_abs, if◌then◌else◌, List, [], ◌∷◌}
 use Rattle.std.specs.Int.{int_min, int_max}
 use Rattle.value_domain.specs.declared.range.Range.{Range}
 use Rattle.value_domain.specs.Ranges.{meet_range, whole_unless, sum_range, difference_range, product_range, quotient_range}

@@ -1,13 +1,12 @@
 -- The laws of intervals with ends in the thresholds.
-use Rattle.std.proofs.Common.{cond, ◌≡◌, ◌≢◌, ℕ, zero, suc, ◌+◌, ◌<◌, ◌≤◌, ◌⊎◌, inl, inr, ℤ, pos, ◌≤ℤ◌, ◌<ℤ◌, int_le, int_lt, Bool, true, false, ◌&&◌, ◌||◌, refl, sym, ◌∙◌, ap, subst, arith, List, [], ◌∷◌, length}
-use Rattle.std.specs.Int.{int_min, int_max}
+use Rattle.std.proofs.Common.{◌≡◌, ◌<◌, ◌≤◌, ◌⊎◌, inl, inr, ℤ, ◌≤ℤ◌, ◌<ℤ◌, int_lt, Bool, true, false, ◌&&◌, ◌||◌, refl, subst, arith, List, [], ◌∷◌, length}
 use Rattle.std.proofs.lemmas.Int.{ints, clamps, by_lt_z}
 use Rattle.fix_engine.specs.Solving.{one_if}
 use Rattle.value_domain.specs.declared.range.Range.{Range}
 use Rattle.lattice_parts.specs.Sets.{Has}
 use Rattle.lattice_parts.specs.Parts.{PartLaws}
 use Rattle.value_domain.specs.Ranges.{Within, hull, FitsRange, range_below, outside}
-use Rattle.value_domain.specs.FitLemmas.{Tells, le_tells, picked_min, picked_max}
+use Rattle.value_domain.specs.FitLemmas.{le_tells, picked_min, picked_max}
 
 two : (a b : Bool) → (a && b) ≡ true → (a ≡ true) × (b ≡ true)
 two true true h = (refl, refl)

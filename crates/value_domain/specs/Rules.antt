@@ -1,5 +1,5 @@
 -- Operators on constants as the code names them.
-use Rattle.std.specs.Prelude.{◌≡◌, ℕ, Bool, true, false, not, Option, Some, None}
+use Rattle.std.specs.Prelude.{ℕ, Bool, not, Option}
 use Rattle.gimple_ir.specs.declared.scalar.Scalar.{Scalar}
 use Rattle.gimple_ir.specs.declared.value.Constant.{Constant}
 use Rattle.lattice_parts.specs.Sets.{same_by}

@@ -1,24 +1,23 @@
 -- The laws of abstract values.
-use Rattle.std.proofs.Common.{cond, ◌≡◌, ◌≢◌, ℕ, zero, suc, ◌+◌, ◌-◌, ◌<◌, ◌≤◌, ◌⊎◌, inl, inr, ℤ, pos, ◌≤ℤ◌, int_lt, Bool, true, false, ◌&&◌, refl, sym, ◌∙◌, ap, subst, arith, List, [], ◌∷◌, length, leb}
+use Rattle.std.proofs.Common.{cond, ◌≡◌, ◌≢◌, ℕ, ◌+◌, ◌<◌, ◌≤◌, ◌⊎◌, inl, inr, ℤ, ◌≤ℤ◌, int_lt, Bool, true, false, refl, sym, ◌∙◌, subst, arith, List, [], ◌∷◌, length, leb}
 use Rattle.std.proofs.lemmas.Int.{ints, clamps}
 use Rattle.std.proofs.lemmas.Bool.{leb-true}
 use Rattle.fix_engine.specs.Lattice.{LatticeLaws}
 use Rattle.gimple_ir.specs.declared.value.Constant.{Constant}
-use Rattle.value_domain.specs.declared.bits.Bits.{Bits}
 use Rattle.value_domain.specs.declared.range.Range.{Range}
 use Rattle.value_domain.specs.declared.vals.Vals.{Vals}
 use Rattle.value_domain.specs.declared.vals.Vals.TheVariants.{Any, Nothing, Among}
 use Rattle.value_domain.specs.declared.abs_val.AbsVal.{AbsVal}
-use Rattle.lattice_parts.specs.Sets.{Has, Ascending, Subset, united}
+use Rattle.lattice_parts.specs.Sets.{Has, Subset, united}
 use Rattle.lattice_parts.specs.SetLemmas.{united_ascends, united_right}
 use Rattle.lattice_parts.specs.Parts.{PartLaws, FitsParts, parts_below, parts_joined, parts_rank}
 use Rattle.lattice_parts.specs.PartLemmas.{viewed_laws, lifted_laws}
-use Rattle.lattice_parts.specs.Finite.{Finite, Anything, Members, FitsFinite, finite_below, finite_joined, finite_rank}
+use Rattle.lattice_parts.specs.Finite.{Anything, Members, FitsFinite, finite_joined, finite_rank}
 use Rattle.lattice_parts.specs.FiniteLemmas.{finite_laws}
 use Rattle.value_domain.specs.Constants.{before}
 use Rattle.value_domain.specs.Bitmasks.{FitsBits, bits_rank, bits_below, bits_joined}
 use Rattle.value_domain.specs.Ranges.{hull, FitsRange, range_below, outside, is_bare}
-use Rattle.value_domain.specs.Values.{finite_of, FitsAmong, FitsVals, vals_below, vals_joined, vals_capped, parts_of, none_val, FitsWith, height_with, rank_with, limit_in, thresholds_in, FitsAbsVal, abs_val_height, abs_val_rank, abs_val_below, abs_val_joined}
+use Rattle.value_domain.specs.Values.{finite_of, FitsVals, vals_below, vals_joined, parts_of, none_val, FitsWith, height_with, rank_with, limit_in, thresholds_in, FitsAbsVal, abs_val_height, abs_val_rank, abs_val_below, abs_val_joined}
 use Rattle.value_domain.specs.OrderLemmas.{constant_order}
 use Rattle.value_domain.specs.BitsPart.{bits_laws}
 use Rattle.value_domain.specs.RangePart.{range_laws}

@@ -65,8 +65,7 @@ pub fn brought_values()
 pub fn top_holds_all()
     ensures holds { TopHolds }
     ensures fits { TopFits }
-{
-}
+{}
 
 fn crosses<T: Send + Sync>(_value: &T) {}
 

@@ -1,4 +1,4 @@
-use Rattle.std.proofs.Common.{arith, ℕ, ◌≡◌, ◌≤◌, ◌-◌, ◌^◌, ◌∙◌, ap}
+use Rattle.std.proofs.Common.{arith, ℕ, ◌≡◌, ◌-◌, ◌^◌, ◌∙◌, ap}
 use Rattle.std.proofs.lemmas.Nat.Bits.{ones_shr}
 use Rattle.value_domain.proofs.bit_operators.ones.Goals as goal
 

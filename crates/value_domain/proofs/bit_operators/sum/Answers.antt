@@ -1,4 +1,4 @@
-use Rattle.std.proofs.Common.{arith, ℕ, ◌≡◌, ◌≤◌, ◌+◌, ◌-◌, ◌*◌, ◌^◌, ◌∙◌, ap}
+use Rattle.std.proofs.Common.{arith, ℕ, ◌≡◌, ◌≤◌, ◌+◌, ◌-◌, ◌^◌, ◌∙◌, ap}
 use Rattle.value_domain.specs.BitOperators.{low_known}
 use Rattle.value_domain.proofs.PatternLemmas.{low_code, bits_by}
 use Rattle.value_domain.proofs.bit_operators.sum.Goals as goal

@@ -1,4 +1,4 @@
-use Rattle.std.proofs.Common.{◌≡◌, drop, []}
+use Rattle.std.proofs.Common.{◌≡◌, drop}
 use Rattle.lattice_parts.specs.Sets.{mapped}
 use Rattle.value_domain.specs.Constants.{before}
 use Rattle.value_domain.specs.Rules.{rule_constant}

@@ -1,4 +1,4 @@
-use Rattle.std.proofs.Common.{arith, ◌≡◌, ◌∙◌, sym, ap, ◌-◌, ◌+◌}
+use Rattle.std.proofs.Common.{arith, ◌∙◌, sym, ap, ◌-◌, ◌+◌}
 use Rattle.value_domain.specs.Thresholds.{powers_put, negatives_put, fixed_thresholds}
 use Rattle.value_domain.proofs.LawfulLemmas.{powers_step, powers_end, negatives_step, negatives_end}
 use Rattle.value_domain.proofs.limits.fixed.Goals as goal

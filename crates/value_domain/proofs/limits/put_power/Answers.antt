@@ -1,4 +1,4 @@
-use Rattle.std.proofs.Common.{FitsSigned, rules, ℤ, pos, ap, ◌≡◌, ◌∙◌, ◌-◌, ◌^◌}
+use Rattle.std.proofs.Common.{FitsSigned, rules, pos, ap, ◌≡◌, ◌∙◌, ◌-◌, ◌^◌}
 use Rattle.std.specs.Int.{w128}
 use Rattle.std.proofs.lemmas.Int.{to_z-of_z}
 use Rattle.value_domain.specs.Thresholds.{put_word}

@@ -1,6 +1,6 @@
-use Rattle.std.proofs.Common.{◌-ℤ◌, FitsSigned, rules, arith}
+use Rattle.std.proofs.Common.{◌-ℤ◌, FitsSigned, rules}
 use Rattle.std.specs.Int.{w128}
-use Rattle.std.proofs.lemmas.Int.{to_z-of_z, ints}
+use Rattle.std.proofs.lemmas.Int.{to_z-of_z}
 use Rattle.value_domain.proofs.numbers.minus.Goals as goal
 
 pub returns : goal.returns

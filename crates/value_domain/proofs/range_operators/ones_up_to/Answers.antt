@@ -1,7 +1,7 @@
-use Rattle.std.proofs.Common.{rules, arith, ℤ, pos, ◌≡◌, ◌≤ℤ◌, ◌<ℤ◌, ◌-◌, ◌+◌, ◌^◌, ◌∙◌, sym, ap, subst, FitsSigned, to_z, of_z}
+use Rattle.std.proofs.Common.{rules, arith, ℤ, pos, ◌≡◌, ◌≤ℤ◌, ◌<ℤ◌, ◌-◌, ◌^◌, ◌∙◌, sym, ap, subst, FitsSigned, to_z, of_z}
 use Rattle.std.specs.Int.{w128}
 use Rattle.std.proofs.lemmas.Int.{to_z-of_z, ints}
-use Rattle.value_domain.specs.RangeOperators.{ones_from, ones_reaching}
+use Rattle.value_domain.specs.RangeOperators.{ones_reaching}
 use Rattle.value_domain.proofs.RangeSoundness.{ones_step, ones_found, ones_end}
 use Rattle.value_domain.proofs.range_operators.ones_up_to.Goals as goal
 

@@ -1,4 +1,4 @@
-use Rattle.std.proofs.Common.{◌≡◌, ◌-◌, pos}
+use Rattle.std.proofs.Common.{◌≡◌, ◌-◌}
 use Rattle.value_domain.specs.RangeOperators.{ones_from}
 use Rattle.value_domain.proofs.range_operators.ones_up_to.Given as goal
 

@@ -1,4 +1,4 @@
-use Rattle.std.proofs.Common.{FitsSigned, rules, ap, sym, ◌∙◌, Some}
+use Rattle.std.proofs.Common.{FitsSigned, rules, ◌∙◌}
 use Rattle.std.specs.Int.{w128}
 use Rattle.std.proofs.lemmas.Int.{to_z-of_z}
 use Rattle.value_domain.specs.Ranges.{hull_four}

@@ -2,7 +2,7 @@ use Rattle.std.proofs.Common.{FitsSigned, rules, ap, ◌∙◌, Some}
 use Rattle.std.specs.Int.{w128}
 use Rattle.std.proofs.lemmas.Int.{to_z-of_z}
 use Rattle.value_domain.specs.Ranges.{whole_unless}
-use Rattle.value_domain.proofs.ProductLemmas.{unsigned_product_is, unsigned_words}
+use Rattle.value_domain.proofs.ProductLemmas.{unsigned_product_is}
 use Rattle.value_domain.proofs.range_operators.unsigned_product.Goals as goal
 
 pub returns : goal.returns

@@ -1,6 +1,6 @@
-use Rattle.std.proofs.Common.{rules, arith, sym, ap, to_z, of_z, ◌∙◌, ◌-◌, ◌+◌, pos, get_or, FitsSigned}
+use Rattle.std.proofs.Common.{rules, arith, sym, ap, to_z, of_z, ◌∙◌, ◌-◌, pos, get_or, FitsSigned}
 use Rattle.std.specs.Int.{w128}
-use Rattle.std.proofs.lemmas.Int.{to_z-of_z, ints}
+use Rattle.std.proofs.lemmas.Int.{to_z-of_z}
 use Rattle.value_domain.proofs.ThresholdLemmas.{ceiling_all, ceiling_found, ceiling_after}
 use Rattle.value_domain.proofs.thresholds.ceiling.Goals as goal
 

@@ -1,6 +1,6 @@
 use Rattle.std.proofs.Common.{rules, arith, sym, ◌∙◌, ◌-◌, pos, get_or, FitsSigned}
 use Rattle.std.specs.Int.{w128}
-use Rattle.std.proofs.lemmas.Int.{to_z-of_z, ints}
+use Rattle.std.proofs.lemmas.Int.{to_z-of_z}
 use Rattle.value_domain.specs.RangeOperators.{lowest}
 use Rattle.value_domain.proofs.RoundingLemmas.{floor_none, floor_at}
 use Rattle.value_domain.proofs.ThresholdLemmas.{rises, word_at}
