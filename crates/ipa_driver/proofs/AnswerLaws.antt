@@ -1,24 +1,20 @@
 -- Laws of the answers of a run.
-use Rattle.std.proofs.Common.{◌≡◌, ◌⊎◌, inl, inr, ℕ, ◌+◌, ◌-◌, ◌≤◌, ◌<◌, List, [], ◌∷◌, ◌++◌, length, take, Option, Some, None, Result, Ok, Err, IfOk, MatchResult, refl, sym, ap, ◌∙◌, subst, arith, rules}
+use Rattle.std.proofs.Common.{◌≡◌, ◌⊎◌, inl, inr, ℕ, ◌+◌, ◌-◌, ◌≤◌, List, length, take, Option, Some, None, Result, Ok, Err, IfOk, MatchResult, refl, sym, ◌∙◌, subst}
 use Rattle.std.specs.Option.{IsSomeAnd, IfSome}
-use Rattle.std.proofs.lemmas.Grind.{common_steps}
 use Rattle.shelf.specs.Outside.{Meaning, Contents, at_name, Rose, RoseBy, OnSource, LacksSource, Appends, IsToldCut}
 use Rattle.words.specs.declared.options.SourceName.{SourceName}
-use Rattle.words.specs.declared.options.SourceName.TheVariants.{File}
 use Rattle.words.specs.declared.options.Options.{Options}
 use Rattle.words.specs.declared.options.UsageFault.{UsageFault}
 use Rattle.words.specs.Words.{bytes_of, options_of}
 use Rattle.gimple_ir.specs.declared.program.Program.{Program}
 use Rattle.gimple_core.specs.Sealed.{Sealed}
-use Rattle.gimple_text.specs.Parse.{Spells}
-use Rattle.gimple_text.specs.Canon.{IsSpellable}
 use Rattle.gimple_text.proofs.Laws.{spelled_spellable}
 use Rattle.ipa_driver.proofs.SizeLaws.{countable}
 use Rattle.ipa_driver.specs.declared.finish.Fault.{Fault}
 use Rattle.ipa_driver.specs.declared.finish.Fault.TheVariants.{Usage, Read, Long, Text, Types, Write, Memory}
 use Rattle.ipa_driver.specs.Stores.{IsCut}
 use Rattle.ipa_driver.specs.Verdict.{LIMIT, Verdict, TooLong, BadText, BadTypes, Good, IsVerdict}
-use Rattle.ipa_driver.specs.Answers.{input_of, HasVerdict, Refused, IsGoodSource, Answer, IsMisused, IsComplete, TellsOne, CanStore, WithinRoom, NoneRose, IsMessage, input_bytes}
+use Rattle.ipa_driver.specs.Answers.{input_of, HasVerdict, Refused, IsGoodSource, Answer, IsMisused, IsComplete, TellsOne, CanStore, WithinRoom, NoneRose, input_bytes}
 use Rattle.ipa_driver.specs.Work.{LoadsText, Judges, IsLoaded, WorkKeeps, WorkSure, MessageTold}
 use Rattle.ipa_driver.proofs.VerdictLaws.{one}
 

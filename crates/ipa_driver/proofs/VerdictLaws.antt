@@ -1,10 +1,10 @@
 -- A text has one verdict.
-use Rattle.std.proofs.Common.{◌≡◌, ℕ, List, ◌<◌, ◌≤◌, length, None, Some, ap, refl, sym, arith, subst}
+use Rattle.std.proofs.Common.{◌≡◌, ℕ, ◌<◌, ◌≤◌, length, None, Some, ap, refl, arith, subst}
 use Rattle.gimple_ir.specs.declared.program.Program.{Program}
 use Rattle.gimple_ir.specs.declared.fault.TypeFault.{TypeFault}
 use Rattle.gimple_core.specs.Accepted.{first_fault}
 use Rattle.gimple_text.proofs.FaultLaws.{one_program, fault_excludes, one_fault}
-use Rattle.ipa_driver.specs.Verdict.{LIMIT, Verdict, TooLong, BadText, BadTypes, Good, IsVerdict, OneVerdict}
+use Rattle.ipa_driver.specs.Verdict.{LIMIT, Verdict, TooLong, BadText, BadTypes, Good, OneVerdict}
 
 too_long : (n : ℕ) (v w : Verdict) → LIMIT < n → n ≤ LIMIT → v ≡ w
 too_long n v w h k = absurd (omega arith)

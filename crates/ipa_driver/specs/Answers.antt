@@ -1,7 +1,7 @@
 -- How a run answers, and the cause of each answer.
-use Rattle.std.specs.Prelude.{◌≡◌, ◌⊎◌, ℕ, ◌+◌, ◌≤◌, List, [], length, Option, None, Some, IfSome, IsSomeAnd, Result, Ok, Err, MatchResult, OnErr, ⊤}
+use Rattle.std.specs.Prelude.{◌≡◌, ◌⊎◌, ℕ, ◌+◌, ◌≤◌, List, [], length, Option, None, Some, IfSome, IsSomeAnd, Result, Ok, Err, MatchResult, ⊤}
 use Rattle.std.specs.Option.{option_map}
-use Rattle.shelf.specs.Outside.{Meaning, Contents, at_name, put_all, Rose, RoseBy, OnSource, LacksSource, Appends, IsToldCut, Tells}
+use Rattle.shelf.specs.Outside.{Meaning, Contents, at_name, put_all, Rose, RoseBy, OnSource, LacksSource, Appends, IsToldCut}
 use Rattle.words.specs.declared.options.Name.{Name}
 use Rattle.words.specs.declared.options.SourceName.{SourceName}
 use Rattle.words.specs.declared.options.SourceName.TheVariants.{File}

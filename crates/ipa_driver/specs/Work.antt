@@ -1,5 +1,5 @@
 -- What the parts of a run promise to each other.
-use Rattle.std.specs.Prelude.{◌≡◌, ◌⊎◌, ℕ, ◌+◌, ◌<◌, ◌≤◌, List, length, Option, Some, IfSome, Result, Ok, Err, OnErr, ⊤}
+use Rattle.std.specs.Prelude.{◌≡◌, ◌⊎◌, ℕ, ◌+◌, ◌<◌, ◌≤◌, List, length, Some, IfSome, Result, Ok, Err, OnErr, ⊤}
 use Rattle.shelf.specs.Outside.{Meaning, Rose, RoseBy, OnSource, LacksSource, Tells}
 use Rattle.words.specs.declared.options.SourceName.{SourceName}
 use Rattle.words.specs.declared.options.Options.{Options}
@@ -7,7 +7,7 @@ use Rattle.gimple_core.specs.Sealed.{Sealed}
 use Rattle.gimple_text.specs.Canon.{IsSpellable}
 use Rattle.gimple_types.specs.Counts.{IsCountable}
 use Rattle.ipa_driver.specs.declared.finish.Fault.{Fault}
-use Rattle.ipa_driver.specs.declared.finish.Fault.TheVariants.{Usage, Read, Long, Text, Types, Write, Memory}
+use Rattle.ipa_driver.specs.declared.finish.Fault.TheVariants.{Read, Long, Text, Types, Memory}
 use Rattle.ipa_driver.specs.Verdict.{LIMIT, BadText, BadTypes, Good, IsVerdict}
 use Rattle.ipa_driver.specs.Answers.{HasVerdict, IsMessage, WithinRoom}
 

@@ -1,4 +1,4 @@
-use Rattle.std.proofs.Common.{◌≡◌, ◌∷◌, ◌-◌, take, length, drop, rules, arith, sym, subst, MatchResult}
+use Rattle.std.proofs.Common.{◌-◌, take, length, drop, rules, sym, subst, MatchResult}
 use Rattle.ipa_driver.specs.Stores.{AreStored, IsStoreFault}
 use Rattle.ipa_driver.proofs.StoreLaws.{first_and_rest, answer-more, fault-first}
 use Rattle.ipa_driver.proofs.outputs.+store_all.Goals as goal

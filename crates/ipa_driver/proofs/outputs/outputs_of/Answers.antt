@@ -1,7 +1,4 @@
-use Rattle.std.proofs.Common.{rules, ◌≡◌, ap, sym, ◌∙◌}
-use Rattle.std.proofs.lemmas.Grind.{common_steps}
-use Rattle.gimple_text.specs.Canon.{canon}
-use Rattle.ipa_driver.specs.Stores.{asked_output}
+use Rattle.std.proofs.Common.{rules}
 use Rattle.ipa_driver.proofs.MadeLaws.{made_spelled}
 use Rattle.ipa_driver.proofs.outputs.outputs_of.Goals as goal
 
