@@ -1,6 +1,6 @@
 //! The trait of shelves. Every sentence about a shelf speaks of its meaning, a record of what it holds and counts.
 
-ghost use Rattle.std.specs.Prelude.{ℕ, ◌≤◌, ◌^◌};
+ghost use Rattle.std.specs.Prelude.{◌≤◌, ◌^◌};
 ghost use Rattle.shelf.specs.Outside.{Meaning, InRange, Fetches, FetchAnswer, Stores, StoreAnswer, Tells};
 
 use gimple_ir::Text;

@@ -1,0 +1,153 @@
+-- Laws of the answers of a run.
+use Rattle.std.proofs.Common.{◌≡◌, ◌⊎◌, inl, inr, ℕ, ◌+◌, ◌-◌, ◌≤◌, List, length, take, Option, Some, None, Result, Ok, Err, IfOk, MatchResult, refl, sym, ◌∙◌, subst}
+use Rattle.std.specs.Option.{IsSomeAnd, IfSome}
+use Rattle.shelf.specs.Outside.{Meaning, Contents, at_name, Rose, RoseBy, OnSource, LacksSource, Appends, IsToldCut}
+use Rattle.words.specs.declared.options.SourceName.{SourceName}
+use Rattle.words.specs.declared.options.Options.{Options}
+use Rattle.words.specs.declared.options.UsageFault.{UsageFault}
+use Rattle.words.specs.Words.{bytes_of, options_of}
+use Rattle.gimple_ir.specs.declared.program.Program.{Program}
+use Rattle.gimple_core.specs.Sealed.{Sealed}
+use Rattle.gimple_text.proofs.Laws.{spelled_spellable}
+use Rattle.ipa_driver.proofs.SizeLaws.{countable}
+use Rattle.ipa_driver.specs.declared.finish.Fault.{Fault}
+use Rattle.ipa_driver.specs.declared.finish.Fault.TheVariants.{Usage, Read, Long, Text, Types, Write, Memory}
+use Rattle.ipa_driver.specs.Stores.{IsCut}
+use Rattle.ipa_driver.specs.Verdict.{LIMIT, Verdict, TooLong, BadText, BadTypes, Good, IsVerdict}
+use Rattle.ipa_driver.specs.Answers.{input_of, HasVerdict, Refused, IsGoodSource, Answer, IsMisused, IsComplete, TellsOne, CanStore, WithinRoom, NoneRose, input_bytes}
+use Rattle.ipa_driver.specs.Work.{LoadsText, Judges, IsLoaded, WorkKeeps, WorkSure, MessageTold}
+use Rattle.ipa_driver.proofs.VerdictLaws.{one}
+
+-- what holds of a text that was fetched holds of its source
+module _ (P : List ℕ → Type 0) (text : List ℕ) (h : P text) where
+  some_fetched : (found : Option (List ℕ)) → IsSomeAnd found (λ bytes. text ≡ bytes) → IsSomeAnd found P
+  some_fetched None e = e
+  some_fetched (Some bytes) e = subst P e h
+
+  fetched : (sources : Option Contents) (name : List ℕ) → OnSource sources name (λ bytes. text ≡ bytes) → OnSource sources name P
+  fetched None name e = e
+  fetched (Some m) name e = some_fetched (at_name m name) e
+
+-- what was judged of the text is the verdict on the source
+pub judged : (words : List (List ℕ)) (source : SourceName) (old new : Meaning) (text : List ℕ) (r : Result Sealed Fault) → LoadsText (bytes_of words (input_of source)) old new text → Judges text r → MatchResult r (IsLoaded words source old new) (Refused words source old new)
+judged words source old new text (Ok checked) l j = record {
+  good = fetched (λ bytes. IsVerdict bytes (Good checked.program)) text j old.sources (bytes_of words (input_of source)) l.source;
+  spellable = spelled_spellable text checked.program j.spelled;
+  countable = countable text checked.program j.spelled j.within;
+  read = l.read;
+}
+judged words source old new text (Err (Text f)) l j = fetched (λ bytes. IsVerdict bytes (BadText f)) text j old.sources (bytes_of words (input_of source)) l.source
+judged words source old new text (Err (Types f)) l j = fetched (λ bytes. IsVerdict bytes (BadTypes f)) text j old.sources (bytes_of words (input_of source)) l.source
+judged words source old new text (Err Memory) l j = tt
+judged words source old new text (Err (Usage f)) l j = j
+judged words source old new text (Err Read) l j = absurd j
+judged words source old new text (Err Long) l j = absurd j
+judged words source old new text (Err (Write name)) l j = j
+
+-- a source that is told and good has no other verdict
+module _ (v : Verdict) where
+  some_good : (found : Option (List ℕ)) → IsSomeAnd found (λ bytes. IsVerdict bytes v) → IsSomeAnd found (λ bytes. (p : Program) × IsVerdict bytes (Good p)) → (p : Program) × (v ≡ Good p)
+  some_good None h g = absurd h
+  some_good (Some bytes) h g = (g.0, one bytes v (Good g.0) h g.1)
+
+  good : (sources : Option Contents) (words : List (List ℕ)) (source : SourceName) → HasVerdict sources words source v → IsGoodSource words source sources → (p : Program) × (v ≡ Good p)
+  good None words source h g = absurd g
+  good (Some m) words source h g = some_good (at_name m (bytes_of words (input_of source))) h g
+
+some_lacks : (found : Option (List ℕ)) (P : List ℕ → Type 0) → found ≡ None → IsSomeAnd found P → ⊥
+some_lacks None P e h = h
+some_lacks (Some bytes) P e h = absurd cc
+
+lacks : (sources : Option Contents) (words : List (List ℕ)) (source : SourceName) → LacksSource sources (bytes_of words (input_of source)) → IsGoodSource words source sources → ⊥
+lacks None words source h g = g
+lacks (Some m) words source h g = some_lacks (at_name m (bytes_of words (input_of source))) (λ bytes. (p : Program) × IsVerdict bytes (Good p)) h g
+
+pub complete : (words : List (List ℕ)) (o : Options) (old new : Meaning) (fault : Option Fault) → Answer words o old new fault → IsComplete words o old new fault
+complete words o old new None a g read write = inl refl
+complete words o old new (Some (Usage f)) a g read write = absurd a.0
+complete words o old new (Some Read) a g read write =
+    elim a.0 [ inl rose ↦ absurd (read rose) | inr lacking ↦ absurd (lacks old.sources words o.source lacking g) ]
+complete words o old new (Some Long) a g read write =
+    let e = good TooLong old.sources words o.source a.0.1 g in let x : TooLong ≡ Good e.0 = e.1 in absurd cc
+complete words o old new (Some (Text f)) a g read write =
+    let e = good (BadText f) old.sources words o.source a.0 g in let x : BadText f ≡ Good e.0 = e.1 in absurd cc
+complete words o old new (Some (Types f)) a g read write =
+    let e = good (BadTypes f) old.sources words o.source a.0 g in let x : BadTypes f ≡ Good e.0 = e.1 in absurd cc
+complete words o old new (Some (Write name)) a g read write = absurd (write a.rose)
+complete words o old new (Some Memory) a g read write = inr refl
+
+-- A tell leaves the answer as it is.
+module _ (words : List (List ℕ)) (o : Options) (old mid new : Meaning)
+    (stores : new.stores ≡ mid.stores) (read : new.read_faults ≡ mid.read_faults) (write : new.write_faults ≡ mid.write_faults) (taken : new.taken ≡ mid.taken) where
+  pub answer_after : (fault : Fault) → Answer words o old mid (Some fault) → Answer words o old new (Some fault)
+  answer_after (Usage f) a = (a.0, stores ∙ a.1)
+  answer_after Read a = (subst (λ n. Rose old.read_faults n ⊎ LacksSource old.sources (bytes_of words (input_of o.source))) (sym read) a.0, stores ∙ a.1)
+  answer_after Long a = ((subst (λ n. RoseBy (LIMIT + 1) old.taken n) (sym taken) a.0.0, a.0.1), stores ∙ a.1)
+  answer_after (Text f) a = (a.0, stores ∙ a.1)
+  answer_after (Types f) a = (a.0, stores ∙ a.1)
+  answer_after (Write name) a = record {
+    source = a.source;
+    outputs = a.outputs;
+    good = a.good;
+    made = a.made;
+    rose = subst (λ n. Rose old.write_faults n) (sym write) a.rose;
+    cut = subst (λ (st : Option Contents). IsCut words a.outputs name old.stores st) (sym stores) a.cut;
+  }
+  answer_after Memory a = (a.0, stores ∙ a.1)
+
+-- the message after the work
+module _ (words : List (List ℕ)) (o : Options) (fault : Fault) (input : List ℕ) (old mid new : Meaning)
+    (keeps : WorkKeeps old mid) (t : MessageTold input words fault mid new)
+    (lawful : options_of words ≡ Ok o) (named : input ≡ bytes_of words (input_of o.source))
+    (sure : WorkSure words o old mid (Err fault)) where
+  same_input : input_bytes words ≡ input
+  same_input = rw lawful (sym named)
+
+  fits : (r : ℕ) → CanStore words old.sources r → WithinRoom words o old.sources r
+  fits r can = subst (λ (l : Result Options UsageFault). MatchResult l (λ o. WithinRoom words o old.sources r) (λ _. Unit {0})) lawful can
+
+  told_whole : (r : ℕ) → mid.sure ≡ Some r → length t.message ≤ r → (new.tell_faults ≡ mid.tell_faults) × Appends mid.told new.told t.message
+  told_whole r e short =
+      let s = subst (λ (m : Option ℕ). IfSome m (λ r. length t.message ≤ r → (new.sure ≡ Some (r - length t.message)) × (new.tell_faults ≡ mid.tell_faults) × Appends mid.told new.told t.message)) e t.tells.sure in
+      let w = s short in
+      (w.1, w.2)
+
+  none_rose : (r : ℕ) → (mid.read_faults ≡ old.read_faults) × (mid.write_faults ≡ old.write_faults) × (mid.sure ≡ Some r) → length t.message ≤ r → NoneRose old new × Appends old.told new.told t.message
+  none_rose r w short =
+      let x = told_whole r w.2 short in
+      (record { read = t.tells.read ∙ w.0; write = t.tells.write ∙ w.1; tell = x.0 ∙ keeps.tell }, subst (λ (m : Option (List ℕ)). Appends m new.told t.message) keeps.told x.1)
+
+  surely : (s : Option ℕ)
+      → IfSome s (λ r. WithinRoom words o old.sources r → (mid.read_faults ≡ old.read_faults) × (mid.write_faults ≡ old.write_faults) × (mid.sure ≡ Some r))
+      → IfSome s (λ r. length t.message ≤ r → CanStore words old.sources r → NoneRose old new × Appends old.told new.told t.message)
+  surely None h = tt
+  surely (Some r) h = λ short can. none_rose r (h (fits r can)) short
+
+  told_or_cut : Appends mid.told new.told t.message ⊎ IsToldCut mid new t.message → Appends old.told new.told t.message ⊎ IsToldCut old new t.message
+  told_or_cut (inl e) = inl (subst (λ (m : Option (List ℕ)). Appends m new.told t.message) keeps.told e)
+  told_or_cut (inr c) = inr (record {
+    rose = subst (λ n. Rose n new.tell_faults) keeps.tell c.rose;
+    kept = c.kept;
+    told = subst (λ (m : Option (List ℕ)). Appends m new.told (take c.kept t.message)) keeps.told c.told;
+  })
+
+  pub told_after : TellsOne words fault old new
+  told_after = record {
+    message = t.message;
+    is_message = rw same_input t.is_message;
+    told = told_or_cut t.tells.told;
+    sure = surely old.sure sure;
+  }
+
+-- the answer after the message
+module _ (words : List (List ℕ)) (o : Options) (fault : Fault) (result : Option Fault) (input : List ℕ) (old mid new : Meaning)
+    (lawful : options_of words ≡ Ok o) (faulty : result ≡ Some fault)
+    (a : Answer words o old mid (Some fault)) (t : MessageTold input words fault mid new) where
+  answer : Answer words o old new result
+  answer = subst (λ (f : Option Fault). Answer words o old new f) (sym faulty) (answer_after words o old mid new t.tells.stores t.tells.read t.tells.write t.tells.taken fault a)
+
+  pub answered : MatchResult (options_of words) (λ o. Answer words o old new result) (λ f. IsMisused f old new result)
+  answered = subst (λ (l : Result Options UsageFault). MatchResult l (λ o. Answer words o old new result) (λ f. IsMisused f old new result)) (sym lawful) answer
+
+  pub completed : IfOk (options_of words) (λ o. IsComplete words o old new result)
+  completed = subst (λ (l : Result Options UsageFault). IfOk l (λ o. IsComplete words o old new result)) (sym lawful) (complete words o old new result answer)

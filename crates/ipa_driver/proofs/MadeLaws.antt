@@ -1,0 +1,43 @@
+-- What the passes make of a program may stand for it.
+use Rattle.std.proofs.Common.{ℕ, ◌≤◌, cond, ◌&&◌, refl, sym, subst, arith, le_trans}
+use Rattle.gimple_ir.specs.declared.options.Passes.{Passes}
+use Rattle.gimple_ir.specs.declared.options.Params.{Params}
+use Rattle.gimple_ir.specs.declared.program.Function.{Function}
+use Rattle.gimple_ir.specs.declared.program.Program.{Program}
+use Rattle.gimple_core.specs.Sealed.{Sealed, IsAccepted}
+use Rattle.gimple_core.specs.Size.{size_of_program}
+use Rattle.gimple_core.specs.Reach.{IsWithoutUnreached}
+use Rattle.gimple_core.proofs.Dropping.{reached_runs}
+use Rattle.gimple_core.proofs.KeptAccepted.{reached_accepted}
+use Rattle.gimple_text.specs.Parse.{Spells}
+use Rattle.gimple_text.specs.Canon.{canon, IsSpellable}
+use Rattle.gimple_text.proofs.Laws.{canon_spells, filtered_spellable}
+use Rattle.ipa_driver.specs.declared.passes.Product.{Product}
+use Rattle.ipa_driver.specs.Pipeline.{IsMade, bound, grown}
+
+grows : (size large percent : ℕ) → size ≤ grown size large percent
+grows size large percent = omega arith
+
+within_bound : (size : ℕ) (passes : Passes) (params : Params) → size ≤ bound size passes params
+within_bound size passes params =
+    let large = params.ipa_cp_large_unit_insns in
+    let clones = cond (passes.cp && passes.cp_clone) params.ipa_cp_unit_growth 0 in
+    let splits = cond passes.sra params.ipa_sra_unit_growth 0 in
+    le_trans (grows size large clones) (grows (grown size large clones) large splits)
+
+pub made : (p : Program) (q : Sealed) (passes : Passes) (params : Params) → IsAccepted p → IsWithoutUnreached p q.program → size_of_program q.program ≤ size_of_program p → IsMade p passes params (record { program = q })
+made p q passes params accepted reached shrinks = record {
+  pipeline = record { entering = q.program; reached = reached; program = refl };
+  sound = record {
+    accepted = reached_accepted p q.program accepted reached;
+    runs = reached_runs p q.program reached;
+    entering_size = shrinks;
+    size = within_bound (size_of_program q.program) passes params;
+  };
+}
+
+-- The output's text is its own, where the source has one.
+pub made_spelled : (p : Program) (passes : Passes) (params : Params) (product : Product) → IsSpellable p → IsMade p passes params product → Spells (canon product.program.program) product.program.program
+made_spelled p passes params product h m =
+    let e = subst IsSpellable (sym m.pipeline.reached.program) (filtered_spellable p (λ (f : Function). m.pipeline.reached.keeps f.name) h) in
+    canon_spells product.program.program (subst IsSpellable (sym m.pipeline.program) e)

@@ -1,0 +1,16 @@
+use Rattle.std.proofs.Common.{subst}
+use Rattle.shelf.specs.Outside.{Meaning}
+use Rattle.ipa_driver.specs.Work.{LoadsText, Judges}
+use Rattle.ipa_driver.proofs.AnswerLaws.{judged}
+use Rattle.ipa_driver.proofs.load.load.Goals as goal
+
+pub returns-clause-answer : goal.returns-clause-answer
+returns-clause-answer g c =
+    let old : Meaning = g.S.Shelf.meaning c.args.shelf.now in
+    let new : Meaning = g.S.Shelf.meaning c.fetch_text.new.shelf in
+    let text = c.in_ok-text.text in
+    let words = c.args.words.now in
+    let source = c.args.source.now in
+    judged words source old new text c.judge.result
+    (subst (λ n. LoadsText n old new text) c.input_bytes.ensures c.in_ok-text.ensures.text)
+    (subst (λ t. Judges t c.judge.result) c.as_slice.ensures c.judge.ensures)

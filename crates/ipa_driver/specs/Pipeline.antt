@@ -1,0 +1,43 @@
+-- What the passes make of a program, and what is promised of it.
+use Rattle.std.specs.Prelude.{◌≡◌, ℕ, ℤ, ◌+◌, ◌*◌, ◌/◌, ◌≤◌, max, List, ◌&&◌, if◌then◌else◌}
+use Rattle.gimple_ir.specs.declared.options.Passes.{Passes}
+use Rattle.gimple_ir.specs.declared.options.Params.{Params}
+use Rattle.gimple_ir.specs.declared.program.Program.{Program}
+use Rattle.gimple_core.specs.Sealed.{IsAccepted}
+use Rattle.gimple_core.specs.Size.{size_of_program}
+use Rattle.gimple_core.specs.Reach.{IsWithoutUnreached}
+use Rattle.gimple_core.specs.Run.{Run}
+use Rattle.ipa_driver.specs.declared.passes.Product.{Product}
+
+-- The row of programs that the passes make, and the last one.
+pub record IsPipeline (p : Program) (passes : Passes) (params : Params) (product : Product) : Type 0 where
+  -- what the passes that may grow a program begin with
+  pub entering : Program
+  pub reached : IsWithoutUnreached p entering
+  pub program : product.program.program ≡ entering
+
+-- What a purse of so many percent allows a program of this size to become. Small programs count as large ones of the least size.
+abbrev pub grown : ℕ → ℕ → ℕ → ℕ
+grown size large percent = size + (max size large * percent) / 100
+
+-- how large the output may be, when the passes that may grow a program begin with this size
+abbrev pub bound : ℕ → Passes → Params → ℕ
+bound size passes params =
+    let clones = if passes.cp && passes.cp_clone then params.ipa_cp_unit_growth else 0 in
+    let splits = if passes.sra then params.ipa_sra_unit_growth else 0 in
+    let large = params.ipa_cp_large_unit_insns in
+    grown (grown size large clones) large splits
+
+-- The program q may stand for p: it is accepted, it has printed, ended or trapped as p has, on every input and after
+-- every number of jumps, calls and returns, and it has grown by no more than is allowed. What enters the passes that may
+-- grow a program is no larger than p.
+pub record IsSound (p entering q : Program) (passes : Passes) (params : Params) : Type 0 where
+  pub accepted : IsAccepted q
+  pub runs : (input : List ℤ) (n : ℕ) → Run q input n ≡ Run p input n
+  pub entering_size : size_of_program entering ≤ size_of_program p
+  pub size : size_of_program q ≤ bound (size_of_program entering) passes params
+
+-- all of this of what the passes made
+pub record IsMade (p : Program) (passes : Passes) (params : Params) (product : Product) : Type 0 where
+  pub pipeline : IsPipeline p passes params product
+  pub sound : IsSound p pipeline.entering product.program.program passes params

@@ -1,0 +1,19 @@
+//! The tool as one call: from the words and a shelf to the status.
+#![tactic(auto)]
+
+mod fault_texts;
+mod finish;
+mod load;
+mod message;
+mod outputs;
+mod passes;
+mod top;
+mod verdict;
+
+pub use finish::{Fault, Finish};
+pub use gimple_text::{Spot, TextFault};
+pub use passes::{Product, pipeline};
+pub use shelf::{Fail, Fetched, MemoryShelf, Shelf, Stored};
+pub use top::optimise_alone;
+pub use verdict::one_verdict;
+pub use words::{Name, Options, SourceName, UsageFault, read_words};

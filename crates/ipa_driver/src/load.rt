@@ -1,0 +1,73 @@
+//! The fetch, the reader and the checker.
+
+ghost use Rattle.std.specs.Prelude.{◌≡◌, MatchResult, length, ◌≤◌};
+ghost use Rattle.words.specs.Words.{bytes_of};
+ghost use Rattle.ipa_driver.specs.Answers.{Refused, input_of};
+ghost use Rattle.ipa_driver.specs.Work.{Loads, LoadsText, FetchRefused, Judges, IsLoaded};
+
+use crate::finish::Fault;
+use gimple_core::{Checked, Text};
+use gimple_text::{TextFault, parse};
+use gimple_types::{Refusal, accept};
+use shelf::{Fetched, Shelf};
+use std::alloc::Global;
+use words::{SourceName, name_bytes};
+
+/// The most bytes that a source may have.
+const LIMIT: u64 = 16_777_216;
+
+/// The input's name.
+pub fn input_bytes<'a>(words: &'a [Text], source: &SourceName) -> &'a [u8]
+    ensures { result.now ≡ bytes_of words.now (input_of source.now) }
+{
+    let SourceName::File(name) = source;
+    name_bytes(words, name)
+}
+
+/// The text of the source of this name.
+fn fetch_text<S: Shelf>(alloc: Global, name: &[u8], shelf: &mut S) -> Result<Text, Fault>
+    ensures loads { Loads (S.meaning shelf.old) (S.meaning shelf.new) }
+    ensures text { MatchResult result
+        (LoadsText name.now (S.meaning shelf.old) (S.meaning shelf.new))
+        (FetchRefused name.now (S.meaning shelf.old) (S.meaning shelf.new)) }
+{
+    let mut text = Text::new(alloc);
+    match shelf.fetch(name, LIMIT, &mut text) {
+        Fetched::Done => Ok(text),
+        Fetched::Failed => Err(Fault::Read),
+        Fetched::Long => Err(Fault::Long),
+        Fetched::Memory => Err(Fault::Memory),
+    }
+}
+
+/// The accepted program of a text.
+fn judge(alloc: Global, text: &[u8]) -> Result<Checked, Fault>
+    requires { length text.now ≤ 16777216 }
+    ensures { Judges text.now result }
+{
+    match parse(alloc, text) {
+        Ok(program) => match accept(alloc, program) {
+            Ok(checked) => Ok(checked),
+            Err(Refusal::Fault(fault)) => Err(Fault::Types(fault)),
+            Err(Refusal::Memory(_)) => Err(Fault::Memory),
+        },
+        Err(TextFault::Memory(_)) => Err(Fault::Memory),
+        Err(fault) => Err(Fault::Text(fault)),
+    }
+}
+
+/// The accepted program of the source that the words name.
+pub fn load<S: Shelf>(
+    alloc: Global,
+    words: &[Text],
+    source: &SourceName,
+    shelf: &mut S,
+) -> Result<Checked, Fault>
+    ensures loads { Loads (S.meaning shelf.old) (S.meaning shelf.new) }
+    ensures answer { MatchResult result
+        (IsLoaded words.now source.now (S.meaning shelf.old) (S.meaning shelf.new))
+        (Refused words.now source.now (S.meaning shelf.old) (S.meaning shelf.new)) }
+{
+    let text = fetch_text(alloc, input_bytes(words, source), shelf)?;
+    judge(alloc, text.as_slice())
+}

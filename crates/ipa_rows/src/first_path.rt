@@ -1,0 +1,155 @@
+//! Programs of functions, jumps, sums and prints, and shelves that fail.
+
+use crate::run::{Run, comes_out};
+use ipa_driver::Fail;
+use std::test::Fail as TestFail;
+
+const LINE: &str = "a.g -o b.g";
+
+const MINIMAL: &str = "gimple 1;
+i32 main () {
+  <bb 2>:
+    return 0;
+}
+";
+
+const UNREACHED: &str = "gimple 1;
+void h () {
+  <bb 2>:
+    k ();
+    return;
+}
+void k () {
+  <bb 2>:
+    return;
+}
+i32 main () {
+  <bb 2>:
+    return 0;
+}
+";
+
+const ARGUMENT_COUNT: &str = "gimple 1;
+void f (i32 n) {
+  <bb 2>:
+    return;
+}
+i32 main () {
+  <bb 2>:
+    f ();
+    return 0;
+}
+";
+
+const LOOP: &str = "gimple 1;
+i32 twice (i32 n) {
+  i32 sum;
+  <bb 2>:
+    sum = n + n;
+    return sum;
+}
+i32 main () {
+  i32 left;
+  i32 seen;
+  <bb 2>:
+    left = 3;
+    goto <bb 3>;
+  <bb 3>:
+    if (left > 0) goto <bb 4>; else goto <bb 5>;
+  <bb 4>:
+    seen = twice (left);
+    putint (seen);
+    left = left - 1;
+    goto <bb 3>;
+  <bb 5>:
+    return -1;
+}
+";
+
+#[test]
+fn programs(rt: HostRuntime) -> Result<(), TestFail> {
+    let runs = [
+        (MINIMAL, 0, Some(MINIMAL), ""),
+        (UNREACHED, 0, Some(MINIMAL), ""),
+        (LOOP, 0, Some(LOOP), ""),
+        (
+            ARGUMENT_COUNT,
+            1,
+            None,
+            "a.g: function 2 statement 1: error: T05 argument count\n",
+        ),
+        ("", 1, None, "a.g:1:1: error: early end\n"),
+        ("gimple 2;", 1, None, "a.g:1:8: error: bad token\n"),
+        ("gimple 1;\n$\n", 1, None, "a.g:2:1: error: bad byte\n"),
+    ];
+    for (source, status, stored, told) in runs {
+        let run = Run {
+            line: LINE,
+            source: Some(source),
+            fails: &[],
+            status,
+            stored,
+            told,
+        };
+        assert!(rt; comes_out(rt.alloc(), &run)?, "{source}");
+    }
+    Ok(())
+}
+
+#[test]
+fn shelves(rt: HostRuntime) -> Result<(), TestFail> {
+    let runs = [
+        Run {
+            line: LINE,
+            source: Some(MINIMAL),
+            fails: &[Fail { call: 1, kept: 0 }],
+            status: 3,
+            stored: None,
+            told: "a.g: error: cannot read\n",
+        },
+        Run {
+            line: LINE,
+            source: Some(MINIMAL),
+            fails: &[Fail { call: 2, kept: 10 }],
+            status: 4,
+            stored: Some("gimple 1;\n"),
+            told: "b.g: error: cannot write\n",
+        },
+        Run {
+            line: LINE,
+            source: Some(MINIMAL),
+            fails: &[Fail { call: 1, kept: 0 }, Fail { call: 2, kept: 0 }],
+            status: 3,
+            stored: None,
+            told: "",
+        },
+        Run {
+            line: LINE,
+            source: None,
+            fails: &[],
+            status: 3,
+            stored: None,
+            told: "a.g: error: cannot read\n",
+        },
+        Run {
+            line: "a.g b.g -o",
+            source: Some(MINIMAL),
+            fails: &[],
+            status: 2,
+            stored: None,
+            told: "gimple-ipa: word 0: error: U00 words\n",
+        },
+        Run {
+            line: "",
+            source: Some(MINIMAL),
+            fails: &[],
+            status: 2,
+            stored: None,
+            told: "gimple-ipa: word 0: error: U00 words\n",
+        },
+    ];
+    for run in &runs {
+        assert!(rt; comes_out(rt.alloc(), run)?, "{}", run.line);
+    }
+    Ok(())
+}

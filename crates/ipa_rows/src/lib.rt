@@ -1,0 +1,7 @@
+//! Whole runs of the tool over a shelf in memory, with texts and messages that were written by hand.
+#![tactic(auto)]
+
+#[cfg(test)]
+mod first_path;
+#[cfg(test)]
+mod run;
