@@ -18,6 +18,7 @@ use Rattle.gimple_core.specs.Env.{Env, Names, has, declared, globals_by_name, fu
 use Rattle.gimple_core.specs.Statements as s
 use Rattle.gimple_core.specs.Declarations as d
 use Rattle.gimple_core.specs.Accepted.{checked, first_fault, known_env}
+use Rattle.gimple_core.proofs.ProgramTyped.{labels_are}
 use Rattle.gimple_core.proofs.Passed.{first_passed, demanded, at_passed, no_fault}
 use Rattle.gimple_core.proofs.EnvLemmas.{declared_new}
 use Rattle.gimple_core.proofs.KeptAccepted.{heads_are, Each}
@@ -66,13 +67,6 @@ locals_made env out names (x ∷ xs) h =
     locals_made p.0 out names xs p.2 ∙ ((λ i. record (q i) { locals = (q i).locals ++ decls_by_name xs })
     ∙ (λ i. record env { locals = append_assoc env.locals ((x.name, x) ∷ []) (decls_by_name xs) i }))
 
-labels_made : (earlier out : List ℕ) (bs : List Block) → d.labels earlier bs ≡ Ok out → out ≡ earlier ++ map (λ b. b.label) bs
-unfolding d.labels
-labels_made earlier out [] h = sym (ok_same h) ∙ sym (append-nil earlier)
-labels_made earlier out (b ∷ bs) h =
-    let p = first_passed (demand (not (list_any (λ l. b.label == l) earlier)) 9) _ out h in
-    labels_made (earlier ++ b.label ∷ []) out bs p.2 ∙ append_assoc earlier (b.label ∷ []) (map (λ b. b.label) bs)
-
 record Sees (known : Env) (f : Function) (env : Env) : Type 0 where
   some : d.has_blocks f.blocks ≡ true
   same : env ≡ record known { locals = decls_by_name f.locals; registers = registers_by_name f.params ++ registers_by_name f.registers; labels = map (λ b. b.label) f.blocks; result = f.result }
@@ -89,7 +83,7 @@ sees known env names f h =
     let a = registers_made first p.0 names f.params p.1 in
     let b = locals_made p.0 q.0 names f.locals q.1 in
     let c = registers_made q.0 r.0 names f.registers r.1 in
-    let l = labels_made [] t.0 f.blocks t.1 in
+    let l = labels_are [] t.0 f.blocks t.1 in
     record {
       some = demanded _ 10 k.1;
       same = sym (ok_same t.2) ∙ ((λ i. record (c i) { labels = l i })

@@ -1,38 +1,146 @@
--- The first fault of some small programs.
-use Rattle.std.proofs.Common.{◌≡◌, ℕ, List, [], ◌∷◌, Option, Some, None, refl, pos}
+-- The first fault of some small programs: one for each code, and one for each order of two checks that both fail.
+use Rattle.std.proofs.Common.{◌≡◌, ℕ, true, false, List, [], ◌∷◌, Option, Some, None, refl, pos, negsuc}
 use Rattle.gimple_ir.specs.declared.scalar.Scalar.{Scalar}
-use Rattle.gimple_ir.specs.declared.scalar.Scalar.TheVariants.{I32}
-use Rattle.gimple_ir.specs.declared.operand.Operand.TheVariants.{Reg, Number}
-use Rattle.gimple_ir.specs.declared.statement.Stmt.TheVariants.{Call}
-use Rattle.gimple_ir.specs.declared.block.End.TheVariants.{Return}
+use Rattle.gimple_ir.specs.declared.scalar.Scalar.TheVariants.{I8, I32, I64, U8, Ptr}
+use Rattle.gimple_ir.specs.declared.scalar.Op.TheVariants.{Add, Sub, Shl}
+use Rattle.gimple_ir.specs.declared.scalar.Cmp.TheVariants.{Eq, Lt}
+use Rattle.gimple_ir.specs.declared.operand.Operand.{Operand}
+use Rattle.gimple_ir.specs.declared.operand.Operand.TheVariants.{Reg, Number, Null, Address}
+use Rattle.gimple_ir.specs.declared.operand.Place.{Place}
+use Rattle.gimple_ir.specs.declared.operand.Base.TheVariants.{Variable}
+use Rattle.gimple_ir.specs.declared.statement.Stmt.{Stmt}
+use Rattle.gimple_ir.specs.declared.statement.Stmt.TheVariants.{Copy, Arith, Compare, Convert, Load, Store, Call, Get, Put, Abort}
+use Rattle.gimple_ir.specs.declared.block.Case.{Case}
+use Rattle.gimple_ir.specs.declared.block.Block.{Block}
+use Rattle.gimple_ir.specs.declared.block.End.{End}
+use Rattle.gimple_ir.specs.declared.block.End.TheVariants.{Goto, If, Switch, Return}
+use Rattle.gimple_ir.specs.declared.declarations.Shape.{Shape}
+use Rattle.gimple_ir.specs.declared.declarations.Shape.TheVariants.{Plain, Named}
+use Rattle.gimple_ir.specs.declared.declarations.Decl.{Decl}
+use Rattle.gimple_ir.specs.declared.declarations.StructDef.{StructDef}
+use Rattle.gimple_ir.specs.declared.declarations.Global.{Global}
+use Rattle.gimple_ir.specs.declared.declarations.Register.{Register}
 use Rattle.gimple_ir.specs.declared.program.Function.{Function}
 use Rattle.gimple_ir.specs.declared.program.Program.{Program}
+use Rattle.gimple_ir.specs.declared.fault.Site.{Site}
 use Rattle.gimple_ir.specs.declared.fault.Site.TheVariants as site
+use Rattle.gimple_ir.specs.declared.fault.TypeFault.{TypeFault}
 use Rattle.gimple_core.specs.Run.{main_name}
-use Rattle.gimple_core.specs.Operators as operators
 use Rattle.gimple_core.specs.Layout as layout
 use Rattle.gimple_core.specs.Env as e
 use Rattle.gimple_core.specs.Statements as s
 use Rattle.gimple_core.specs.Declarations as d
 use Rattle.gimple_core.specs.Accepted.{checked, first_fault}
 
-no_function : first_fault (record { structs = []; globals = []; functions = [] }) ≡ Some (record { code = 3; site = site.Whole })
-unfolding first_fault checked d.structs d.globals d.heads d.main d.functions
-no_function = refl
+abbrev fault : ℕ → Site → Option TypeFault
+fault code where_to = Some (record { code = code; site = where_to })
 
--- i32 main () { <bb 2>: return 0; }
-minimal : first_fault (record { structs = []; globals = []; functions = record { name = main_name; params = []; result = Some I32; locals = []; registers = []; blocks = record { label = 2; body = []; end = Return (Some (Number (pos 0))) } ∷ [] } ∷ [] }) ≡ None
-unfolding first_fault checked d.structs d.globals d.heads d.head d.main d.functions d.one_function d.own d.registers d.locals d.labels s.blocks s.body s.ending s.returned s.operand
-minimal = refl
+-- names of one letter
+abbrev f : List ℕ
+f = 102 ∷ []
 
--- i32 f (i32 n) { .. return n; } and i32 main () { i32 x; <bb 2>: x = f (); return x; }
-argument_count : first_fault (record {
-  structs = [];
-  globals = [];
-  functions =
-      record { name = 102 ∷ []; params = record { name = 110 ∷ []; scalar = I32 } ∷ []; result = Some I32; locals = []; registers = []; blocks = record { label = 2; body = []; end = Return (Some (Reg (110 ∷ []))) } ∷ [] }
-      ∷ record { name = main_name; params = []; result = Some I32; locals = []; registers = record { name = 120 ∷ []; scalar = I32 } ∷ []; blocks = record { label = 2; body = Call (Some (120 ∷ [])) (102 ∷ []) [] ∷ []; end = Return (Some (Reg (120 ∷ []))) } ∷ [] }
-      ∷ [];
-}) ≡ Some (record { code = 5; site = site.Statement 1 1 })
-unfolding first_fault checked d.structs d.globals d.heads d.head d.main d.functions d.one_function d.own d.registers d.register d.is_free d.locals d.labels s.blocks s.body s.statement s.called s.ending s.returned s.operand e.scalar_of
-argument_count = refl
+abbrev g : List ℕ
+g = 103 ∷ []
+
+abbrev h : List ℕ
+h = 104 ∷ []
+
+abbrev l : List ℕ
+l = 108 ∷ []
+
+abbrev n : List ℕ
+n = 110 ∷ []
+
+abbrev p : List ℕ
+p = 112 ∷ []
+
+abbrev v : List ℕ
+v = 118 ∷ []
+
+abbrev x : List ℕ
+x = 120 ∷ []
+
+abbrev y : List ℕ
+y = 121 ∷ []
+
+abbrev z : List ℕ
+z = 122 ∷ []
+
+abbrev block : List Stmt → End → Block
+block body end = record { label = 2; body = body; end = end }
+
+abbrev register : List ℕ → Scalar → Register
+register name scalar = record { name = name; scalar = scalar }
+
+abbrev decl : List ℕ → Shape → Option ℕ → Decl
+decl name shape length = record { name = name; shape = shape; length = length }
+
+abbrev global : List ℕ → Shape → Option ℕ → List Operand → Global
+global name shape length items = record { decl = decl name shape length; constant = true; items = items }
+
+abbrev zero_result : End
+zero_result = Return (Some (Number (pos 0)))
+
+-- i32 main () with registers i32 x, i64 y, ptr p and a local i32 l[2]
+abbrev main_of : List Block → Function
+main_of blocks = record { name = main_name; params = []; result = Some I32; locals = decl l (Plain I32) (Some 2) ∷ []; registers = register x I32 ∷ register y I64 ∷ register p Ptr ∷ []; blocks = blocks }
+
+-- i32 f (i32 n) { <bb 2>: return n; }
+abbrev taker : Function
+taker = record { name = f; params = register n I32 ∷ []; result = Some I32; locals = []; registers = []; blocks = block [] (Return (Some (Reg n))) ∷ [] }
+
+-- void v () { <bb 2>: return; }
+abbrev nothing : Function
+nothing = record { name = v; params = []; result = None; locals = []; registers = []; blocks = block [] (Return None) ∷ [] }
+
+-- global const i32 g = {5}; and the functions f, v and main with these blocks
+abbrev program : List Block → Program
+program blocks = record { structs = []; globals = global g (Plain I32) None (Number (pos 5) ∷ []) ∷ []; functions = taker ∷ nothing ∷ main_of blocks ∷ [] }
+
+-- the fault of a statement of main, and of an end
+abbrev of_stmt : Stmt → Option TypeFault
+of_stmt stmt = first_fault (program (block (stmt ∷ []) zero_result ∷ []))
+
+abbrev of_end : End → Option TypeFault
+of_end end = first_fault (program (block [] end ∷ []))
+
+-- the fault of structs and globals before a main
+abbrev of_declared : List StructDef → List Global → Option TypeFault
+of_declared structs globals = first_fault (record { structs = structs; globals = globals; functions = main_of (block [] zero_result ∷ []) ∷ [] })
+
+abbrev of_functions : List Function → Option TypeFault
+of_functions functions = first_fault (record { structs = []; globals = []; functions = functions })
+
+abbrev case_of : ℕ → ℕ → Case
+case_of value target = record { value = pos value; target = target }
+
+abbrev here : Site
+here = site.Statement 2 1
+
+rows : (of_functions [] ≡ fault 3 site.Whole)
+  × (of_functions (main_of (block [] zero_result ∷ []) ∷ []) ≡ None)
+  × (of_functions (taker ∷ record taker { name = main_name } ∷ []) ≡ fault 3 (site.Statement 1 0))
+  × (of_functions (main_of [] ∷ []) ≡ fault 10 (site.Statement 0 0))
+  × (of_functions (main_of (block [] zero_result ∷ block [] zero_result ∷ []) ∷ []) ≡ fault 9 (site.Statement 0 0))
+  × (of_functions (taker ∷ taker ∷ []) ≡ fault 2 (site.Statement 1 0))
+  × (of_functions (record taker { registers = register n I32 ∷ [] } ∷ main_of [] ∷ []) ≡ fault 2 (site.Statement 0 0))
+  × (of_declared [] (global main_name (Plain I32) None [] ∷ []) ≡ fault 2 (site.Statement 0 0))
+  × (of_declared [] (global g (Plain I32) (Some 2) (Number (pos 1) ∷ Number (pos 2) ∷ Number (pos 3) ∷ []) ∷ []) ≡ fault 11 (site.Global 0))
+  × (of_declared [] (global g (Plain I32) (Some 0) [] ∷ []) ≡ fault 12 (site.Global 0))
+  × (of_declared [] (global g (Named h) None [] ∷ []) ≡ fault 1 (site.Global 0))
+  × (of_declared (record { name = h; fields = [] } ∷ []) [] ≡ fault 12 (site.Struct 0))
+  × (of_declared (record { name = h; fields = decl x (Named h) None ∷ [] } ∷ []) [] ≡ fault 15 (site.Struct 0))
+  × (of_stmt (Copy z (Number (pos 0))) ≡ fault 1 here)
+  × (of_stmt (Copy x (Reg y)) ≡ fault 4 here)
+  × (of_stmt (Call (Some x) f []) ≡ fault 5 here)
+  × (of_stmt (Call (Some x) f (Reg y ∷ [])) ≡ fault 6 here)
+  × (of_stmt (Call (Some x) v []) ≡ fault 7 here)
+  × (of_end (Goto 9) ≡ fault 8 here)
+  × (of_stmt (Load x I32 (record { base = Variable l; offset = pos 1 })) ≡ fault 11 here)
+  × (of_stmt (Load x I32 (record { base = Variable l; offset = pos 4 })) ≡ None)
+  × (of_stmt (Copy x (Number (pos 2147483648))) ≡ fault 13 here)
+  × (of_stmt (Store I32 (record { base = Variable g; offset = pos 0 }) (Number (pos 6))) ≡ fault 14 here)
+  × (of_end (Return None) ≡ fault 16 here)
+  × (of_end (Switch (Reg x) (case_of 1 2 ∷ case_of 1 2 ∷ []) 2) ≡ fault 17 here)
+unfolding first_fault checked layout.layout_of d.structs d.one_struct d.fields d.sized d.globals d.one_global d.item d.items d.heads d.head d.main d.functions d.one_function d.own d.registers d.register d.is_free d.locals d.local d.labels d.new_label s.blocks s.body s.statement s.called s.arguments s.printed s.place_at s.arith s.right_side s.count s.compared s.common_scalar s.integer s.converted s.operand s.ending s.label s.case_values s.new_case s.case_labels s.returned e.scalar_of
+rows = (refl, refl, refl, refl, refl, refl, refl, refl, refl, refl, refl, refl, refl, refl, refl, refl, refl, refl, refl, refl, refl, refl, refl, refl, refl)

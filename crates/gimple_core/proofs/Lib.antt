@@ -10,3 +10,5 @@ mod AcceptedRows
 pub mod Passed
 pub mod EnvLemmas
 pub mod KeptAccepted
+pub mod AcceptedTyped
+pub mod ProgramTyped

@@ -49,14 +49,14 @@ earlier_shape all earlier (Named name) = do
   demand (has name all) 1
   demand (has name earlier) 15
 
--- each field of a struct, after the names of earlier fields
-unfoldable pub fields : List StructDef → List StructDef → List (List ℕ) → List Decl → Verdict (Unit {0})
-fields all earlier names [] = pure tt
-fields all earlier names (f ∷ fs) = do
-  demand (not (list_any (bytes_eq f.name) names)) 2
+-- each field of a struct, after earlier fields
+unfoldable pub fields : List StructDef → List StructDef → Names Decl → List Decl → Verdict (Unit {0})
+fields all earlier seen [] = pure tt
+fields all earlier seen (f ∷ fs) = do
+  more ← declared seen f.name f
   earlier_shape (structs_by_name all) (structs_by_name earlier) f.shape
   sized earlier f
-  fields all earlier (names ++ f.name ∷ []) fs
+  fields all earlier more fs
 
 abbrev pub is_empty : List Decl → Bool
 is_empty [] = true
@@ -180,12 +180,17 @@ locals env functions (d ∷ ds) = do
   more ← local env functions d
   locals more functions ds
 
+unfoldable pub new_label : List ℕ → ℕ → Verdict (List ℕ)
+new_label earlier label = do
+  demand (not (list_any (λ l. label == l) earlier)) 9
+  pure (earlier ++ label ∷ [])
+
 -- labels of blocks, after earlier ones
 unfoldable pub labels : List ℕ → List Block → Verdict (List ℕ)
 labels earlier [] = pure earlier
 labels earlier (b ∷ bs) = do
-  demand (not (list_any (λ l. b.label == l) earlier)) 9
-  labels (earlier ++ b.label ∷ []) bs
+  more ← new_label earlier b.label
+  labels more bs
 
 abbrev pub has_blocks : List Block → Bool
 has_blocks [] = false

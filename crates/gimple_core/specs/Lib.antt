@@ -12,4 +12,5 @@ pub mod Env
 pub mod Statements
 pub mod Declarations
 pub mod Accepted
+pub mod Typed
 pub mod Sealed

@@ -1,6 +1,7 @@
 -- The checks of statements and of the ends of blocks, in their order.
-use Rattle.std.specs.Prelude.{ℕ, zero, suc, ◌+◌, ◌-◌, ◌^◌, ◌==◌, Bool, true, false, not, ◌||◌, ◌&&◌, if◌then◌else◌, List, [], ◌∷◌, ◌++◌, length, Option, Some, None, Result, Ok, Err, ℤ, pos, negsuc, ◌-ℤ◌, int_le}
+use Rattle.std.specs.Prelude.{ℕ, ◌+◌, ◌==◌, Bool, true, false, not, ◌||◌, ◌&&◌, if◌then◌else◌, List, [], ◌∷◌, ◌++◌, length, Option, Some, None, Result, Ok, Err, ℤ, pos, negsuc}
 use Rattle.std.specs.List.{list_any}
+use Rattle.std.specs.Ordering.{int_eq}
 use Rattle.gimple_ir.specs.declared.scalar.Scalar.{Scalar}
 use Rattle.gimple_ir.specs.declared.scalar.Scalar.TheVariants.{I8, I16, I32, I64, U8, U16, U32, U64, Ptr}
 use Rattle.gimple_ir.specs.declared.scalar.Op.{Op}
@@ -227,13 +228,18 @@ statement env functions Abort = pure tt
 unfoldable pub label : Env → ℕ → Verdict (Unit {0})
 label env to = demand (list_any (λ l. to == l) env.labels) 8
 
+unfoldable pub new_case : List ℤ → ℤ → Verdict (List ℤ)
+new_case earlier value = do
+  demand (not (list_any (int_eq value) earlier)) 17
+  pure (earlier ++ value ∷ [])
+
 -- the value of each case, after the values of earlier ones
 unfoldable pub case_values : Scalar → List ℤ → List Case → Verdict (Unit {0})
 case_values scalar earlier [] = pure tt
 case_values scalar earlier (c ∷ cs) = do
   demand (in_scalar scalar c.value) 13
-  demand (not (list_any (λ z. int_le z c.value && int_le c.value z) earlier)) 17
-  case_values scalar (earlier ++ c.value ∷ []) cs
+  more ← new_case earlier c.value
+  case_values scalar more cs
 
 unfoldable pub case_labels : Env → List Case → Verdict (Unit {0})
 case_labels env [] = pure tt

@@ -69,7 +69,8 @@ fn repeat(
     })
 }
 
-fn named_layout<'a>(known: &'a [KnownLayout], name: &Text) -> Option<&'a KnownLayout>
+/// The layout of the first struct of this name.
+pub fn named_layout<'a>(known: &'a [KnownLayout], name: &Text) -> Option<&'a KnownLayout>
     ensures { option_copied result ≡ find (λ k. same_name k.name name.now) known.now }
 {
     known.iter().find(|k| same_name(&k.name, name))
@@ -134,7 +135,7 @@ fn struct_layout(alloc: Heap, known: &[KnownLayout], fields: &[Decl]) -> Result<
 }
 
 /// Puts the layout of a struct behind those of the structs before it.
-fn push_layout(alloc: Heap, known: &mut Vec<KnownLayout>, s: &StructDef) -> Result<(), OutOfMemory>
+pub fn push_layout(alloc: Heap, known: &mut Vec<KnownLayout>, s: &StructDef) -> Result<(), OutOfMemory>
     requires size { (with_fields known.old.items empty_layout s.now.fields).size ≤ 2 ^ 24 }
     requires layouts { All (λ k. IsLayout k.layout) known.old.items }
     ensures same { OnOk result (known.new.items ≡ known.old.items ++ record { name = s.now.name; layout = with_fields known.old.items empty_layout s.now.fields } ∷ []) }

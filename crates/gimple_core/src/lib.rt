@@ -1,6 +1,7 @@
 //! What programs are and mean: their types, sizes, layout and operators, and programs without a type fault.
 #![tactic(auto)]
 
+mod acceptance;
 mod checked;
 mod layout;
 mod machine;
@@ -11,6 +12,7 @@ mod size;
 #[cfg(test)]
 mod tests;
 
+pub use acceptance::accepted_is_typed;
 pub use checked::{Checked, checked_crosses};
 pub use gimple_ir::{
     Base, Block, Blocks, Case, Cases, Cmp, Constant, Constants, Decl, Decls, Edge, Edges, End,
@@ -19,7 +21,7 @@ pub use gimple_ir::{
     Points, Program, Register, Registers, Scalar, Scalars, Shape, Site, Slots, Stmt, Stmts,
     StructDef, StructDefs, Text, TrapKind, TypeFault, Value,
 };
-pub use layout::{KnownLayout, layout_of};
+pub use layout::{KnownLayout, layout_of, named_layout, push_layout};
 pub use machine::{Cell, Extent, FoundSlot, MemorySlot};
 pub use names::same_name;
 pub use operators::{bits, eval_cmp, eval_op, fits, from_low, half, low, modulus, signed, wrap};
