@@ -192,11 +192,11 @@ unfolding s.label
 label_so env to h = demanded _ 8 h
 
 cases_so : (env : Env) (scalar : Scalar) (earlier : List ℤ) (cs : List Case) → s.case_values scalar earlier cs ≡ Ok tt → s.case_labels env cs ≡ Ok tt → CasesTyped env scalar cs
-unfolding s.case_values s.case_labels
+unfolding s.case_values s.new_case s.case_labels
 cases_so env scalar earlier [] h k = tt
 cases_so env scalar earlier (c ∷ cs) h k =
-    let p = first_passed (demand (in_scalar scalar c.value) 13) _ tt h in
-    let q = first_passed (s.new_case earlier c.value) _ tt p.2 in
+    let q = first_passed (s.new_case scalar earlier c.value) _ tt h in
+    let p = first_passed (demand (in_scalar scalar c.value) 13) _ q.0 q.1 in
     let r = first_passed (s.label env c.target) _ tt k in
     (demanded _ 13 p.1, label_so env c.target r.1, cases_so env scalar q.0 cs q.2 r.2)
 

@@ -228,17 +228,18 @@ statement env functions Abort = pure tt
 unfoldable pub label : Env → ℕ → Verdict (Unit {0})
 label env to = demand (list_any (λ l. to == l) env.labels) 8
 
-unfoldable pub new_case : List ℤ → ℤ → Verdict (List ℤ)
-new_case earlier value = do
+-- a case's value is of the scalar, and no earlier one
+unfoldable pub new_case : Scalar → List ℤ → ℤ → Verdict (List ℤ)
+new_case scalar earlier value = do
+  demand (in_scalar scalar value) 13
   demand (not (list_any (int_eq value) earlier)) 17
   pure (earlier ++ value ∷ [])
 
--- the value of each case, after the values of earlier ones
+-- the value of each case, after those of earlier ones
 unfoldable pub case_values : Scalar → List ℤ → List Case → Verdict (Unit {0})
 case_values scalar earlier [] = pure tt
 case_values scalar earlier (c ∷ cs) = do
-  demand (in_scalar scalar c.value) 13
-  more ← new_case earlier c.value
+  more ← new_case scalar earlier c.value
   case_values scalar more cs
 
 unfoldable pub case_labels : Env → List Case → Verdict (Unit {0})

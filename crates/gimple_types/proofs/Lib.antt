@@ -1,0 +1,6 @@
+pub mod TableLemmas
+pub mod SizeLemmas
+pub mod ItemLemmas
+pub mod StructLemmas
+pub mod CountLemmas
+pub mod NameLemmas

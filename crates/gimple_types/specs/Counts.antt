@@ -1,0 +1,24 @@
+-- Programs whose parts can be counted.
+use Rattle.std.specs.Prelude.{ℕ, ◌<◌, ◌^◌, List, [], ◌∷◌, length}
+use Rattle.gimple_ir.specs.declared.declarations.StructDef.{StructDef}
+use Rattle.gimple_ir.specs.declared.program.Function.{Function}
+use Rattle.gimple_ir.specs.declared.program.Program.{Program}
+use Rattle.gimple_core.specs.Size.{size_of_function, size_of_program}
+
+-- each function has fewer than 2^32 statements
+abbrev pub AreShort : List Function → Type 0
+AreShort [] = Unit {0}
+AreShort (f ∷ fs) = (size_of_function f < 2 ^ 32) × AreShort fs
+
+-- each struct has fewer than 2^32 fields
+abbrev pub AreNarrow : List StructDef → Type 0
+AreNarrow [] = Unit {0}
+AreNarrow (s ∷ ss) = (length s.fields < 2 ^ 32) × AreNarrow ss
+
+-- each list of the program has fewer than 2^32 items, and its size is below 2^32
+pub record IsCountable (p : Program) : Type 0 where
+  pub structs : length p.structs < 2 ^ 32
+  pub fields : AreNarrow p.structs
+  pub globals : length p.globals < 2 ^ 32
+  pub functions : length p.functions < 2 ^ 32
+  pub size : size_of_program p < 2 ^ 32

@@ -1,0 +1,5 @@
+pub mod Tables
+pub mod Verdicts
+pub mod Sizes
+pub mod Counts
+pub mod Seen

@@ -1,0 +1,16 @@
+//! Which programs have no type fault.
+#![tactic(auto)]
+
+mod declare;
+mod env;
+mod globals;
+mod names;
+mod program;
+mod refusal;
+mod scalars;
+mod statements;
+mod structs;
+
+pub use gimple_core::{Site, TypeFault};
+pub use program::accept;
+pub use refusal::Refusal;
