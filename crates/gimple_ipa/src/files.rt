@@ -86,7 +86,12 @@ fn write_whole<W: Write>(writer: &mut W, bytes: &[u8]) -> bool {
 
 impl<'a> FileShelf<'a> {
     /// A shelf whose counts are 0.
-    pub fn new(rt: &'a HostRuntime) -> Self {
+    pub fn new(rt: &'a HostRuntime) -> Self
+        ensures read { result.read_faults ≡ 0 }
+        ensures write { result.write_faults ≡ 0 }
+        ensures tell { result.tell_faults ≡ 0 }
+        ensures taken { result.taken ≡ 0 }
+    {
         FileShelf {
             rt,
             read_faults: 0,
