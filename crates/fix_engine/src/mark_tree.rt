@@ -39,14 +39,6 @@ impl MarkTree {
         Ok(MarkTree { marked, least })
     }
 
-    /// Whether a number is marked.
-    pub fn holds(&self, at: u32) -> bool
-        requires { at < length self.now }
-        ensures { result ≡ slice_index_or self.now at false }
-    {
-        self.marked[at as usize]
-    }
-
     /// The least marked number.
     pub fn first(&self) -> Option<u32>
         ensures some { IfSome result (IsFirstMark self.now) }
