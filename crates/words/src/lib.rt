@@ -1,6 +1,8 @@
 //! The words of `gimple-ipa`, and what they ask for.
 #![tactic(auto)]
 
+#[allow(dead_code)]
+mod numbers;
 mod options;
 mod read;
 
