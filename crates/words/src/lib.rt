@@ -1,14 +1,19 @@
-//! The words of `gimple-ipa`, and what they ask for.
+//! The words of `gimple-ipa` and `gimple-run`, and what they ask for.
 #![tactic(auto)]
 
-#[allow(dead_code)]
 mod numbers;
 mod options;
 mod read;
+mod run_options;
+mod run_words;
 
-pub use gimple_ir::{Params, Passes, Text};
+pub use gimple_ir::{OutOfMemory, Params, Passes, Text};
 pub use options::{Name, Options, SourceName, UsageFault};
 pub use read::{name_bytes, read_words, usage_text};
+pub use run_options::RunOptions;
+pub use run_words::{input_numbers, read_run_words};
 
+#[cfg(test)]
+mod run_tests;
 #[cfg(test)]
 mod tests;
