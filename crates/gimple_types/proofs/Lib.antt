@@ -1,5 +1,7 @@
 pub mod TableLemmas
 pub mod SizeLemmas
+pub mod ItemLemmas
 pub mod StructLemmas
 pub mod CountLemmas
 pub mod NameLemmas
+pub mod ProgramLemmas

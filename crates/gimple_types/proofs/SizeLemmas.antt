@@ -76,3 +76,15 @@ has_within (suc n) size o slots scalar w l =
     (λ h. ap (λ x. has_slot slots (pos x) scalar) (sym (in_element n size o h l)) ∙ sym (has_moved (n * size) o slots scalar h)
     ∙ ap (λ b. b || has_slot (moved (n * size) slots) (pos o) scalar) (has_behind n size o slots scalar w h) ∙ sym seam)
     (cases_lt o (n * size))
+
+moved_length : (by : ℕ) (slots : List LayoutSlot) → length (moved by slots) ≡ length slots
+moved_length by [] = refl
+moved_length by (s ∷ slots) = ap suc (moved_length by slots)
+
+pub repeated_length : (n size : ℕ) (slots : List LayoutSlot) → length (repeated n size slots) ≡ n * length slots
+repeated_length zero size slots = omega arith
+repeated_length (suc n) size slots =
+    let e = length-append (repeated n size slots) (moved (n * size) slots) in
+    let a = repeated_length n size slots in
+    let b = moved_length (n * size) slots in
+    grind (arith, e, a, b)

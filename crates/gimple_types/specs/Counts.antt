@@ -1,5 +1,5 @@
 -- Programs whose parts can be counted.
-use Rattle.std.specs.Prelude.{◌≡◌, ◌<◌, ◌^◌, List, [], ◌∷◌, length}
+use Rattle.std.specs.Prelude.{◌<◌, ◌^◌, List, [], ◌∷◌, length}
 use Rattle.gimple_ir.specs.declared.declarations.StructDef.{StructDef}
 use Rattle.gimple_ir.specs.declared.program.Function.{Function}
 use Rattle.gimple_ir.specs.declared.program.Program.{Program}
@@ -14,10 +14,6 @@ AreShort (f ∷ fs) = (size_of_function f < 2 ^ 32) × AreShort fs
 abbrev pub AreNarrow : List StructDef → Type 0
 AreNarrow [] = Unit {0}
 AreNarrow (s ∷ ss) = (length s.fields < 2 ^ 32) × AreNarrow ss
-
--- the first profile has no structs and no globals
-abbrev pub IsFirstProfile : Program → Type 0
-IsFirstProfile p = (p.structs ≡ []) × (p.globals ≡ [])
 
 -- each list of the program has fewer than 2^32 items, and its size is below 2^32
 pub record IsCountable (p : Program) : Type 0 where

@@ -3,6 +3,7 @@
 
 mod declare;
 mod env;
+mod globals;
 mod names;
 mod program;
 mod refusal;

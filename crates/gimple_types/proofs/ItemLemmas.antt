@@ -1,0 +1,109 @@
+-- The slot of each item.
+use Rattle.std.proofs.Common.{◌≡◌, ℕ, zero, suc, ◌+◌, ◌-◌, ◌*◌, ◌%◌, ◌<◌, ◌≤◌, add-one, List, [], ◌∷◌, ◌++◌, map, length, drop, get_or, slice_index_or, Option, Some, None, Result, Ok, refl, sym, ◌∙◌, ap, arith, ⊎_elim}
+use Rattle.std.specs.List.{slice_get}
+use Rattle.std.specs.Option.{option_map}
+use Rattle.std.proofs.Math.Seq.{drop-cons}
+use Rattle.std.proofs.lemmas.Bool.{cases_lt}
+use Rattle.std.proofs.lemmas.List.{length-map, length-append}
+use Rattle.std.proofs.lemmas.Option.{slice_get_past, slice_get_within, slice_get-map, get_or_from_slice_get}
+use Rattle.gimple_ir.specs.declared.scalar.Scalar.{Scalar}
+use Rattle.gimple_ir.specs.declared.operand.Operand.{Operand}
+use Rattle.gimple_ir.specs.declared.declarations.Global.{Global}
+use Rattle.gimple_ir.specs.declared.value.LayoutSlot.{LayoutSlot}
+use Rattle.gimple_core.specs.Layout.{moved, repeated}
+use Rattle.gimple_core.specs.Verdict.{Verdict, and_then}
+use Rattle.gimple_core.specs.Env.{Names}
+use Rattle.gimple_core.specs.Declarations.{item, items}
+use Rattle.gimple_types.specs.Sizes.{scalar_at, slot_item, items_from}
+use Rattle.gimple_types.proofs.SizeLemmas.{repeated_length, in_element}
+
+module _ {T : Type 0} where
+  get_left : (a b : List T) (i : ℕ) → i < length a → slice_get (a ++ b) i ≡ slice_get a i
+  get_left [] b i l = let z : ⊥ = omega (arith, l) in absurd z
+  get_left (x ∷ a) b zero l = refl
+  get_left (x ∷ a) b (suc i) l = let k : i < length a = omega (arith, l) in get_left a b i k
+
+  get_right : (a b : List T) (i : ℕ) → length a ≤ i → slice_get (a ++ b) i ≡ slice_get b (i - length a)
+  get_right [] b i l = let e : i ≡ i - 0 = omega arith in ap (slice_get b) e
+  get_right (x ∷ a) b zero l = let z : ⊥ = omega (arith, l) in absurd z
+  get_right (x ∷ a) b (suc i) l = let k : length a ≤ i = omega (arith, l) in let e : i - length a ≡ suc i - length (x ∷ a) = omega arith in get_right a b i k ∙ ap (slice_get b) e
+
+moved_scalar : (by i : ℕ) (slots : List LayoutSlot) → scalar_at (moved by slots) i ≡ scalar_at slots i
+moved_scalar by i [] = refl
+moved_scalar by zero (s ∷ slots) = refl
+moved_scalar by (suc i) (s ∷ slots) = moved_scalar by i slots
+
+-- a slot of elements in a row
+pub repeated_scalar : (n size i : ℕ) (slots : List LayoutSlot) → i < n * length slots → scalar_at (repeated n size slots) i ≡ scalar_at slots (i % length slots)
+repeated_scalar zero size i slots l = let z : ⊥ = omega (arith, l) in absurd z
+repeated_scalar (suc n) size i slots l =
+    let e = repeated_length n size slots in
+    ⊎_elim
+    (λ h. ap (option_map (λ s. s.scalar)) (get_left (repeated n size slots) (moved (n * size) slots) i (let k : i < length (repeated n size slots) = omega (arith, h, e) in k)) ∙ repeated_scalar n size i slots h)
+    (λ h. ap (option_map (λ s. s.scalar)) (get_right (repeated n size slots) (moved (n * size) slots) i (let k : length (repeated n size slots) ≤ i = omega (arith, h, e) in k))
+    ∙ moved_scalar (n * size) (i - length (repeated n size slots)) slots
+    ∙ ap (λ k. scalar_at slots (i - k)) e ∙ ap (scalar_at slots) (in_element n (length slots) i h l))
+    (cases_lt i (n * length slots))
+
+pub no_repeated_scalar : (n size i : ℕ) (slots : List LayoutSlot) → n * length slots ≤ i → scalar_at (repeated n size slots) i ≡ None
+no_repeated_scalar n size i slots l =
+    let e = repeated_length n size slots in
+    let k : length (repeated n size slots) ≤ i = omega (arith, l, e) in
+    ap (option_map (λ s. s.scalar)) (slice_get_past (repeated n size slots) i k)
+
+there : (slots : List LayoutSlot) (i : ℕ) (scalar : Scalar) → Some scalar ≡ scalar_at slots i → (s : LayoutSlot) × (s.scalar ≡ scalar) × (drop i slots ≡ s ∷ drop (i + 1) slots)
+there [] i scalar h = cc
+there (s ∷ slots) zero scalar h = (s, cc, refl)
+there (s ∷ slots) (suc i) scalar h = let r = there slots i scalar h in let e : suc (i + 1) ≡ suc i + 1 = omega arith in (r.0, r.1, r.2 ∙ ap (λ k. r.0 ∷ drop k (s ∷ slots)) e)
+
+-- an item that has a slot
+pub items_step : (all : Names Global) (slots : List LayoutSlot) (i : ℕ) (x : Operand) (xs : List Operand) (scalar : Scalar) → Some scalar ≡ scalar_at slots i → items all (drop i slots) (x ∷ xs) ≡ and_then (item all scalar x) (λ _. items all (drop (i + 1) slots) xs)
+unfolding items
+items_step all slots i x xs scalar h = let t = there slots i scalar h in rw t.2 (rw t.1 refl)
+
+nowhere : (slots : List LayoutSlot) (i : ℕ) → None ≡ scalar_at slots i → drop i slots ≡ []
+nowhere [] zero h = refl
+nowhere [] (suc i) h = refl
+nowhere (s ∷ slots) zero h = cc
+nowhere (s ∷ slots) (suc i) h = nowhere slots i h
+
+-- an item behind the last slot
+pub items_end : (all : Names Global) (slots : List LayoutSlot) (i : ℕ) (x : Operand) (xs : List Operand) → None ≡ scalar_at slots i → items all (drop i slots) (x ∷ xs) ≡ Ok tt
+unfolding items
+items_end all slots i x xs h = rw (nowhere slots i h) refl
+
+nowhere_next : (slots : List LayoutSlot) (i : ℕ) → None ≡ scalar_at slots i → drop (i + 1) slots ≡ []
+nowhere_next [] zero h = refl
+nowhere_next [] (suc i) h = rw (add-one (suc i)) refl
+nowhere_next (s ∷ slots) zero h = cc
+nowhere_next (s ∷ slots) (suc i) h = rw (add-one (suc i)) (ap (λ k. drop k slots) (sym (add-one i)) ∙ nowhere_next slots i h)
+
+no_slots : (all : Names Global) (xs : List Operand) → items all [] xs ≡ Ok tt
+unfolding items
+no_slots all [] = refl
+no_slots all (x ∷ xs) = refl
+
+no_items : (all : Names Global) (slots : List LayoutSlot) → items all slots [] ≡ Ok tt
+unfolding items
+no_items all [] = refl
+no_items all (s ∷ slots) = refl
+
+one_more : (all : Names Global) (slots : List LayoutSlot) (i : ℕ) (x : Operand) (xs : List Operand) (o : Option Scalar) → o ≡ scalar_at slots i → items all (drop (i + 1) slots) xs ≡ items_from all slots (i + 1) xs →
+    items all (drop i slots) (x ∷ xs) ≡ and_then (slot_item all o x) (λ _. items_from all slots (i + 1) xs)
+one_more all slots i x xs None e more = items_end all slots i x xs e ∙ sym (sym more ∙ ap (λ l. items all l xs) (nowhere_next slots i e) ∙ no_slots all xs)
+one_more all slots i x xs (Some scalar) e more = items_step all slots i x xs scalar e ∙ ap (λ v. and_then (item all scalar x) (λ _. v)) more
+
+-- items from one on, by the numbers of their slots
+items_are : (all : Names Global) (slots : List LayoutSlot) (i : ℕ) (xs : List Operand) → items all (drop i slots) xs ≡ items_from all slots i xs
+unfolding items_from
+items_are all slots i [] = no_items all (drop i slots)
+items_are all slots i (x ∷ xs) = one_more all slots i x xs (scalar_at slots i) refl (items_are all slots (i + 1) xs)
+
+pub all_items_are : (all : Names Global) (slots : List LayoutSlot) (xs : List Operand) → items all slots xs ≡ items_from all slots 0 xs
+all_items_are all slots xs = items_are all slots 0 xs
+
+-- a slot that is read by its number
+pub in_slots : (slots : List LayoutSlot) (i : ℕ) (d : LayoutSlot) → i < length slots → Some (slice_index_or slots i d).scalar ≡ scalar_at slots i
+in_slots [] i d l = let z : ⊥ = omega (arith, l) in absurd z
+in_slots (s ∷ slots) zero d l = refl
+in_slots (s ∷ slots) (suc i) d l = let k : i < length slots = omega (arith, l) in in_slots slots i d k
