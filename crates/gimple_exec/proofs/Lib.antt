@@ -1,4 +1,6 @@
 pub mod AssignedLemmas
+pub mod OrderLemmas
+pub mod SeekLemmas
 pub mod MadeLemmas
 pub mod PlaceLemmas
 pub mod StepLemmas

@@ -3,9 +3,12 @@
 
 mod cells;
 mod entry;
+mod extents;
 mod interpreter;
 mod machine;
 mod memory;
+mod order;
+mod slots;
 mod values;
 mod world;
 

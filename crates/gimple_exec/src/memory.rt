@@ -7,7 +7,9 @@ ghost use Rattle.gimple_core.specs.State.{zero_of};
 ghost use Rattle.gimple_core.specs.Memory.{same_object, is_slot, found_at, found_offset, found_extent, put_slot, is_elsewhere};
 ghost use Rattle.gimple_core.specs.Run.{filled, item_value};
 
-use crate::values::{self, is_same_object, is_same_scalar};
+use crate::extents::Extents;
+use crate::slots::Slots;
+use crate::values;
 use gimple_core::{
     Decl, Extent, FoundSlot, Layout, LayoutSlot, MemorySlot, Object, Operand, OutOfMemory, Program,
     Scalar, TrapKind, Value, layout_of,
@@ -15,30 +17,9 @@ use gimple_core::{
 use std::alloc::Global as Heap;
 use std::marker::Model;
 
-/// Whether a slot is that of an object with an offset and a scalar.
-fn is_at(slot: MemorySlot, object: Object, offset: u64, scalar: Scalar) -> bool
-    ensures { result ≡ is_slot object offset scalar slot }
-{
-    is_same_object(slot.object, object)
-        && slot.offset == offset
-        && is_same_scalar(slot.scalar, scalar)
-}
-
-fn slot_at(slots: &[MemorySlot], object: Object, offset: u64, scalar: Scalar) -> Option<&MemorySlot>
-    ensures { option_copied result ≡ find (is_slot object offset scalar) slots.now }
-{
-    slots.iter().find(|s| is_at(**s, object, offset, scalar))
-}
-
-fn extent_of(living: &[Extent], object: Object) -> Option<&Extent>
-    ensures { option_copied result ≡ find (λ x. same_object x.object object) living.now }
-{
-    living.iter().find(|x| is_same_object(x.object, object))
-}
-
 /// An access in an object that lives.
 fn found_in(
-    slots: &[MemorySlot],
+    slots: &Slots,
     object: Object,
     offset: i64,
     scalar: Scalar,
@@ -53,7 +34,7 @@ fn found_in(
     if at >= extent.size {
         return Err(TrapKind::Bounds);
     }
-    match slot_at(slots, object, at, scalar) {
+    match slots.found(object, at, scalar) {
         Some(slot) => Ok(FoundSlot {
             object,
             offset: at,
@@ -67,58 +48,20 @@ fn found_in(
 /// An access of a scalar through a pointer.
 #[tactic(auto, unfolding(gimple_core::specs::Memory::found_at))]
 fn found_by(
-    living: &[Extent],
-    slots: &[MemorySlot],
+    living: &Extents,
+    slots: &Slots,
     pointer: Value,
     scalar: Scalar,
 ) -> Result<FoundSlot, TrapKind>
     ensures { result ≡ found_at (record { living = living.now; slots = slots.now }) pointer scalar }
 {
     match pointer {
-        Value::At { object, offset } => match extent_of(living, object) {
-            Some(extent) => found_in(slots, object, offset, scalar, *extent),
+        Value::At { object, offset } => match living.found(object) {
+            Some(extent) => found_in(slots, object, offset, scalar, extent),
             None => Err(TrapKind::Dangling),
         },
         _ => Err(TrapKind::NullAccess),
     }
-}
-
-/// Puts a value into a slot.
-fn put(slots: &mut [MemorySlot], object: Object, offset: u64, scalar: Scalar, value: Value)
-    ensures { slots.new ≡ put_slot slots.old object offset scalar value }
-{
-    for at in 0..slots.len() {
-        let slot = slots[at];
-        if is_at(slot, object, offset, scalar) {
-            slots[at] = MemorySlot { value, ..slot };
-            return;
-        }
-    }
-}
-
-/// Whether an object is none of a frame's locals.
-fn elsewhere(serial: u64, object: Object) -> bool
-    ensures { result ≡ is_elsewhere serial object }
-{
-    match object {
-        Object::Global(_) => true,
-        Object::Local {
-            serial: other,
-            number: _,
-        } => other != serial,
-    }
-}
-
-fn leave_slots(slots: &mut Vec<MemorySlot>, serial: u64)
-    ensures { slots.new.items ≡ filter (λ s. is_elsewhere serial s.object) slots.old.items }
-{
-    slots.retain(|s| elsewhere(serial, s.object));
-}
-
-fn leave_extents(extents: &mut Vec<Extent>, serial: u64)
-    ensures { extents.new.items ≡ filter (λ x. is_elsewhere serial x.object) extents.old.items }
-{
-    extents.retain(|x| elsewhere(serial, x.object));
 }
 
 /// The value at a place, or zero or null.
@@ -133,12 +76,12 @@ pub fn value_at(values: &[Value], k: usize, scalar: Scalar) -> Value
 
 /// Puts an object's slots behind the others, the first ones with these values.
 fn fill(
-    slots: &mut Vec<MemorySlot>,
+    slots: &mut Slots,
     object: Object,
     layout: &[LayoutSlot],
     values: &[Value],
 ) -> Result<(), OutOfMemory>
-    ensures { OnOk result (slots.new.items ≡ slots.old.items ++ filled object layout.now values.now) }
+    ensures { OnOk result (slots.new ≡ slots.old ++ filled object layout.now values.now) }
 {
     for k in 0..layout.len() {
         let slot = layout[k];
@@ -170,8 +113,8 @@ fn item_values(
 /// The objects that live, and what their slots hold.
 #[derive(Drop)]
 pub struct Memory {
-    living: Vec<Extent>,
-    slots: Vec<MemorySlot>,
+    living: Extents,
+    slots: Slots,
 }
 
 impl Model for Memory {
@@ -179,7 +122,7 @@ impl Model for Memory {
 
     ghost Value = { Memory };
 
-    ghost view = { λ m. record { living = m.living.items; slots = m.slots.items } };
+    ghost view = { λ m. record { living = m.living; slots = m.slots } };
 }
 
 impl Memory {
@@ -192,8 +135,8 @@ impl Memory {
         ensures { result ≡ no_memory }
     {
         Memory {
-            living: Vec::new(alloc),
-            slots: Vec::new(alloc),
+            living: Extents::new(alloc),
+            slots: Slots::new(alloc),
         }
     }
 
@@ -201,19 +144,14 @@ impl Memory {
     pub fn found(&self, pointer: Value, scalar: Scalar) -> Result<FoundSlot, TrapKind>
         ensures { result ≡ found_at self.now pointer scalar }
     {
-        found_by(
-            self.living.as_slice(),
-            self.slots.as_slice(),
-            pointer,
-            scalar,
-        )
+        found_by(&self.living, &self.slots, pointer, scalar)
     }
 
     /// Puts a value into a slot.
     pub fn put(&mut self, object: Object, offset: u64, scalar: Scalar, value: Value)
         ensures { self.new ≡ record self.old { slots = put_slot self.old.slots object offset scalar value } }
     {
-        put(&mut self.slots, object, offset, scalar, value);
+        self.slots.put(object, offset, scalar, value);
     }
 
     /// Takes out the locals of a frame that has returned.
@@ -221,8 +159,8 @@ impl Memory {
     pub fn leave(&mut self, serial: u64)
         ensures { self.new ≡ without_frame serial self.old }
     {
-        leave_extents(&mut self.living, serial);
-        leave_slots(&mut self.slots, serial);
+        self.living.leave(serial);
+        self.slots.leave(serial);
     }
 
     fn add_object(
