@@ -8,7 +8,7 @@ use Rattle.gimple_ir.specs.declared.block.Block.{Block}
 use Rattle.gimple_ir.specs.declared.program.Function.{Function}
 use Rattle.gimple_ir.specs.declared.program.Program.{Program}
 use Rattle.gimple_core.specs.Size.{size_of_block, size_of_function, size_of_program}
-use Rattle.gimple_types.specs.Counts.{IsCountable, AreNarrow, IsFirstProfile}
+use Rattle.gimple_types.specs.Counts.{IsCountable, AreNarrow}
 use Rattle.gimple_tokens.specs.declared.token.Token.{Token}
 use Rattle.gimple_tokens.specs.Lexing.{Bytes, LexesFrom, skip}
 use Rattle.gimple_tokens.proofs.Runs.{shorter, skip_length}
@@ -74,7 +74,3 @@ countable bs p h k =
       functions = omega arith;
       size = omega arith;
     }
-
--- what a text spells has no structs and no globals
-pub first_profile : (bs : Bytes) (p : Program) → Spells bs p → IsFirstProfile p
-first_profile bs p h = (h.spelled.1, h.spelled.2)
