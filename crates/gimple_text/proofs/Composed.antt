@@ -11,8 +11,8 @@ use Rattle.gimple_tokens.proofs.Runs.{ended, walked}
 use Rattle.gimple_tokens.proofs.OneList.{same_tokens}
 use Rattle.token_law.specs.declared.cursor.Fault.{Fault}
 use Rattle.token_law.specs.declared.cursor.Fault.TheVariants as read
-use Rattle.gimple_text.specs.Grammar.{IsProgram}
-use Rattle.gimple_text.specs.TokenFaults.{BeginsProgram, IsOver, IsFault, FaultOf, ReadsAs}
+use Rattle.gimple_grammar.specs.Grammar.{IsProgram}
+use Rattle.gimple_grammar.specs.TokenFaults.{BeginsProgram, IsOver, IsFault, FaultOf, ReadsAs}
 use Rattle.gimple_text.specs.Parse.{Spells, IsBadByte, IsBadToken, IsEarlyEnd, FaultOrMemory, ParsesAs, Judged}
 use Rattle.gimple_text.specs.declared.fault.TextFault.{TextFault}
 use Rattle.gimple_text.specs.declared.fault.TextFault.TheVariants.{Memory, BadByte, BadToken, EarlyEnd}

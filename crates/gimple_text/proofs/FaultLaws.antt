@@ -9,12 +9,12 @@ use Rattle.gimple_tokens.specs.Spots.{spot_at, spot_before}
 use Rattle.gimple_tokens.proofs.OneList.{some_parts, to_end, compared}
 use Rattle.gimple_tokens.proofs.Real.{up_to_real}
 use Rattle.token_law.proofs.ReadsExactly.{both_real}
-use Rattle.gimple_text.specs.Grammar.{IsProgram}
-use Rattle.gimple_text.specs.TokenFaults.{BeginsProgram}
+use Rattle.gimple_grammar.specs.Grammar.{IsProgram}
+use Rattle.gimple_grammar.specs.TokenFaults.{BeginsProgram}
 use Rattle.gimple_text.specs.Parse.{Spells, IsBadByte, IsBadToken, IsEarlyEnd, TextFaultOf, OneProgram, FaultExcludes, OneFault}
 use Rattle.gimple_text.specs.declared.fault.TextFault.{TextFault}
 use Rattle.gimple_text.specs.declared.fault.TextFault.TheVariants.{Memory, BadByte, BadToken, EarlyEnd}
-use Rattle.gimple_text.proofs.Theorems.{one}
+use Rattle.gimple_grammar.proofs.Theorems.{one}
 use Rattle.gimple_text.proofs.Composed.{begun}
 
 -- the tokens begin a program, and with those that come next they do not

@@ -1,6 +1,3 @@
-pub mod Productions
-pub mod Programs
-pub mod Theorems
 pub mod Composed
 pub mod FaultLaws
 pub mod CanonTokens

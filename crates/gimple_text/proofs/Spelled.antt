@@ -1,28 +1,41 @@
 -- What tokens that bytes can have spell has names and numbers that bytes can have.
-use Rattle.std.proofs.Common.{◌≡◌, ℕ, zero, suc, ◌<◌, ◌^◌, List, [], ◌∷◌, ◌++◌, Option, Some, None, refl, sym, ap, subst, ◌∙◌, inl, inr, ◌⊎◌}
+use Rattle.std.proofs.Common.{◌≡◌, ℕ, zero, suc, ◌<◌, ◌^◌, Bool, true, false, List, [], ◌∷◌, ◌++◌, Option, Some, None, refl, sym, ap, subst, ◌∙◌, append_assoc, lit<, inl, inr, ◌⊎◌}
 use Rattle.std.specs.Prelude.{ℤ, pos, negsuc}
 use Rattle.gimple_ir.specs.declared.operand.Operand.{Operand}
 use Rattle.gimple_ir.specs.declared.operand.Operand.TheVariants.{Reg, Number, Null, Address}
+use Rattle.gimple_ir.specs.declared.operand.Base.{Base}
+use Rattle.gimple_ir.specs.declared.operand.Base.TheVariants as base
+use Rattle.gimple_ir.specs.declared.operand.Place.{Place}
 use Rattle.gimple_ir.specs.declared.scalar.Op.{Op}
 use Rattle.gimple_ir.specs.declared.scalar.Op.TheVariants as op
+use Rattle.gimple_ir.specs.declared.scalar.Cmp.{Cmp}
+use Rattle.gimple_ir.specs.declared.scalar.Cmp.TheVariants as cmp
 use Rattle.gimple_ir.specs.declared.scalar.Scalar.{Scalar}
+use Rattle.gimple_ir.specs.declared.scalar.Scalar.TheVariants as kind
 use Rattle.gimple_ir.specs.declared.statement.Stmt.{Stmt}
 use Rattle.gimple_ir.specs.declared.statement.Stmt.TheVariants.{Copy, Arith, Compare, Convert, Load, Store, Call, Get, Put, Abort}
+use Rattle.gimple_ir.specs.declared.block.Case.{Case}
 use Rattle.gimple_ir.specs.declared.block.End.{End}
 use Rattle.gimple_ir.specs.declared.block.End.TheVariants.{Goto, If, Switch, Return}
 use Rattle.gimple_ir.specs.declared.block.Block.{Block}
+use Rattle.gimple_ir.specs.declared.declarations.Shape.{Shape}
+use Rattle.gimple_ir.specs.declared.declarations.Shape.TheVariants.{Plain, Named}
+use Rattle.gimple_ir.specs.declared.declarations.Decl.{Decl}
+use Rattle.gimple_ir.specs.declared.declarations.StructDef.{StructDef}
+use Rattle.gimple_ir.specs.declared.declarations.Global.{Global}
 use Rattle.gimple_ir.specs.declared.declarations.Register.{Register}
 use Rattle.gimple_ir.specs.declared.program.Function.{Function}
 use Rattle.gimple_ir.specs.declared.program.Program.{Program}
+use Rattle.gimple_tokens.specs.declared.token.Symbol.{Symbol}
 use Rattle.gimple_tokens.specs.declared.token.Symbol.TheVariants as s
+use Rattle.gimple_tokens.specs.declared.token.Token.{Token}
 use Rattle.gimple_tokens.specs.declared.token.Token.TheVariants as tok
-use Rattle.gimple_tokens.specs.Lexing.{Bytes, skip, IsNameText, AllReal}
-use Rattle.gimple_tokens.proofs.Real.{lexed_real, front_real, back_real}
+use Rattle.gimple_tokens.specs.Lexing.{Bytes, IsNameText, AllReal}
+use Rattle.gimple_tokens.proofs.Real.{front_real, back_real}
 use Rattle.token_law.specs.Reading.{Tokens}
 use Rattle.token_law.specs.Languages.{IsMany, IsAfterComma, IsSeparated}
-use Rattle.gimple_text.specs.Grammar.{negative, to_tokens, cmp_symbol, target_tokens, goto_tokens, IsSigned, IsOperand, IsOp, IsArguments, IsSimple, IsStmt, IsEnd, IsBlock, IsResult, IsRegister, IsDeclared, IsFunction, IsProgram}
-use Rattle.gimple_text.specs.Canon.{AllOf, IsSpellableNumber, IsSpellableOperand, IsSpellableOp, IsSpellableTarget, IsSpellableStmt, IsSpellableEnd, IsSpellableBlock, IsSpellableResult, IsSpellableRegister, IsSpellableFunction, IsSpellable}
-use Rattle.gimple_text.specs.Parse.{Spells}
+use Rattle.gimple_grammar.specs.Grammar.{negative, scalar_symbol, op_symbol, cmp_symbol, IsSigned, IsOffset, IsAddress, IsItem, IsOperand, IsArguments, base_tokens, IsPlace, mem_tokens, to_tokens, IsSimple, IsStmt, target_tokens, goto_tokens, IsCase, IsEnd, IsBlock, shape_tokens, length_tokens, decl_tokens, IsField, IsStruct, const_tokens, IsItems, IsGlobal, IsResult, IsRegister, IsDeclared, IsLocal, IsFunction, IsProgram}
+use Rattle.gimple_text.specs.Canon.{AllOf, IsSpellableNumber, IsSpellableOperand, IsSpellableItem, IsSpellableBase, IsSpellablePlace, IsSpellableTarget, IsSpellableStmt, IsSpellableCase, IsSpellableEnd, IsSpellableBlock, IsSpellableShape, IsSpellableLength, IsSpellableDecl, IsSpellableStruct, IsSpellableGlobal, IsSpellableRegister, IsSpellableFunction, IsSpellable}
 
 -- the parts of tokens that bytes can have
 both : (ts a b : Tokens) → ts ≡ a ++ b → AllReal ts → AllReal a × AllReal b
@@ -52,39 +65,77 @@ signed_ok z ts h r =
       | inr b ↦ let q : AllReal (tok.Fixed s.Minus ∷ tok.Number b.0 ∷ []) = subst AllReal b.2 r in subst IsSpellableNumber (sym b.1) (negative_ok b.0 q.1.0)
     ]
 
+zero_ok : IsSpellableNumber (pos 0)
+zero_ok = lit< tt
+
+offset_ok : (z : ℤ) (ts : Tokens) → IsOffset z ts → AllReal ts → IsSpellableNumber z
+offset_ok z ts h r =
+    elim h [
+      | inl a ↦ let q : AllReal (tok.Fixed s.At ∷ a.0) = subst AllReal a.2 r in signed_ok z a.0 a.1 q.1
+      | inr b ↦ subst IsSpellableNumber (sym b.0) zero_ok
+    ]
+
+address_ok : (x : List ℕ) (z : ℤ) (ts : Tokens) → IsAddress x z ts → AllReal ts → IsNameText x × IsSpellableNumber z
+address_ok x z ts h r = let q : AllReal (tok.Fixed s.Ampersand ∷ tok.Name x ∷ h.0) = subst AllReal h.2 r in (q.1.0, offset_ok z h.0 h.1 q.1.1)
+
 operand_ok : (o : Operand) (ts : Tokens) → IsOperand o ts → AllReal ts → IsSpellableOperand o
 operand_ok (Reg x) ts h r = let q : AllReal (tok.Name x ∷ []) = subst AllReal h r in q.0
 operand_ok (Number z) ts h r = signed_ok z ts h r
-operand_ok Null ts h r = h
-operand_ok (Address x z) ts h r = h
+operand_ok Null ts h r = tt
+operand_ok (Address x z) ts h r = address_ok x z ts h r
 
-op_ok : (o : Op) (ts : Tokens) → IsOp o ts → IsSpellableOp o
-op_ok op.Add ts h = tt
-op_ok op.Sub ts h = tt
-op_ok other ts h = absurd h
+item_ok : (o : Operand) (ts : Tokens) → IsItem o ts → AllReal ts → IsSpellableItem o
+item_ok (Reg x) ts h r = h
+item_ok (Number z) ts h r = signed_ok z ts h r
+item_ok Null ts h r = tt
+item_ok (Address x z) ts h r = address_ok x z ts h r
 
 arguments_ok : (xs : List Operand) (ts : Tokens) → IsArguments xs ts → AllReal ts → AllOf IsSpellableOperand xs
 arguments_ok xs ts h r = let q : AllReal (tok.Fixed s.Open ∷ (h.0 ++ tok.Fixed s.Close ∷ [])) = subst AllReal h.2 r in separated_ok IsOperand IsSpellableOperand operand_ok xs h.0 h.1 (front_real h.0 (tok.Fixed s.Close ∷ []) q.1)
 
+base_ok : (b : Base) → AllReal (base_tokens b) → IsSpellableBase b
+base_ok (base.Reg x) r = r.0
+base_ok (base.Variable x) r = r.1.0
+
+place_ok : (p : Place) (ts : Tokens) → IsPlace p ts → AllReal ts → IsSpellablePlace p
+place_ok p ts h r =
+    let t1 : Tokens = h.0 ++ tok.Fixed s.CloseBracket ∷ [] in
+    let q : AllReal (tok.Fixed s.OpenBracket ∷ (base_tokens p.base ++ t1)) = subst AllReal h.2 r in
+    let w = both (base_tokens p.base ++ t1) (base_tokens p.base) t1 refl q.1 in
+    (base_ok p.base w.0, offset_ok p.offset h.0 h.1 (front_real h.0 (tok.Fixed s.CloseBracket ∷ []) w.1))
+
+-- a target and two operands with a symbol between
+pair_ok : (x : List ℕ) (l r : Operand) (y : Symbol) (a b ts : Tokens) → IsOperand l a → IsOperand r b → ts ≡ tok.Name x ∷ tok.Fixed s.Assign ∷ a ++ tok.Fixed y ∷ b → AllReal ts → IsNameText x × IsSpellableOperand l × IsSpellableOperand r
+pair_ok x l r y a b ts h k e real =
+    let q : AllReal (tok.Name x ∷ tok.Fixed s.Assign ∷ (a ++ tok.Fixed y ∷ b)) = subst AllReal e real in
+    let w = both (a ++ tok.Fixed y ∷ b) a (tok.Fixed y ∷ b) refl q.1.1 in
+    (q.0, operand_ok l a h w.0, operand_ok r b k w.1.1)
+
 simple_ok : (b : Stmt) (ts : Tokens) → IsSimple b ts → AllReal ts → IsSpellableStmt b
 simple_ok (Copy x from) ts h r = let q : AllReal (tok.Name x ∷ tok.Fixed s.Assign ∷ h.0) = subst AllReal h.2 r in (q.0, operand_ok from h.0 h.1 q.1.1)
-simple_ok (Arith x l o c) ts h r =
-    let q : AllReal (tok.Name x ∷ tok.Fixed s.Assign ∷ (h.0 ++ (h.1 ++ h.2))) = subst AllReal h.6 r in
-    let w = both (h.0 ++ (h.1 ++ h.2)) h.0 (h.1 ++ h.2) refl q.1.1 in
-    let v = both (h.1 ++ h.2) h.1 h.2 refl w.1 in
-    (q.0, operand_ok l h.0 h.3 w.0, op_ok o h.1 h.4, operand_ok c h.2 h.5 v.1)
+simple_ok (Arith x l o c) ts h r = pair_ok x l c (op_symbol o) h.0 h.1 ts h.2 h.3 h.4 r
+simple_ok (Compare x l o c) ts h r = pair_ok x l c (cmp_symbol o) h.0 h.1 ts h.2 h.3 h.4 r
+simple_ok (Convert x k from) ts h r = let q : AllReal (tok.Name x ∷ tok.Fixed s.Assign ∷ tok.Fixed s.Open ∷ tok.Fixed (scalar_symbol k) ∷ tok.Fixed s.Close ∷ h.0) = subst AllReal h.2 r in (q.0, operand_ok from h.0 h.1 q.1.1.1.1.1)
+simple_ok (Load x k place) ts h r = let q : AllReal (tok.Name x ∷ tok.Fixed s.Assign ∷ (mem_tokens k ++ h.0)) = subst AllReal h.2 r in (q.0, place_ok place h.0 h.1 q.1.1.1.1.1.1)
+simple_ok (Store k place from) ts h r =
+    let q : AllReal (mem_tokens k ++ (h.0 ++ tok.Fixed s.Assign ∷ h.1)) = subst AllReal h.4 r in
+    let w = both (h.0 ++ tok.Fixed s.Assign ∷ h.1) h.0 (tok.Fixed s.Assign ∷ h.1) refl q.1.1.1.1 in
+    (place_ok place h.0 h.2 w.0, operand_ok from h.1 h.3 w.1.1)
 simple_ok (Call None f xs) ts h r = let q : AllReal (tok.Name f ∷ h.0) = subst AllReal h.2 r in (tt, q.0, arguments_ok xs h.0 h.1 q.1)
 simple_ok (Call (Some x) f xs) ts h r = let q : AllReal (tok.Name x ∷ tok.Fixed s.Assign ∷ tok.Name f ∷ h.0) = subst AllReal h.2 r in (q.0, q.1.1.0, arguments_ok xs h.0 h.1 q.1.1.1)
+simple_ok (Get x) ts h r = let q : AllReal (tok.Name x ∷ tok.Fixed s.Assign ∷ tok.Fixed s.Getint ∷ tok.Fixed s.Open ∷ tok.Fixed s.Close ∷ []) = subst AllReal h r in q.0
 simple_ok (Put from) ts h r = let q : AllReal (tok.Fixed s.Putint ∷ tok.Fixed s.Open ∷ (h.0 ++ tok.Fixed s.Close ∷ [])) = subst AllReal h.2 r in operand_ok from h.0 h.1 (front_real h.0 (tok.Fixed s.Close ∷ []) q.1.1)
-simple_ok (Compare x l c o) ts h r = absurd h
-simple_ok (Convert x kind from) ts h r = absurd h
-simple_ok (Load x kind place) ts h r = absurd h
-simple_ok (Store kind place from) ts h r = absurd h
-simple_ok (Get x) ts h r = absurd h
-simple_ok Abort ts h r = absurd h
+simple_ok Abort ts h r = tt
 
 statement_ok : (b : Stmt) (ts : Tokens) → IsStmt b ts → AllReal ts → IsSpellableStmt b
 statement_ok b ts h r = simple_ok b h.0 h.1 (both ts h.0 (tok.Fixed s.Semi ∷ []) h.2 r).0
+
+case_ok : (c : Case) (ts : Tokens) → IsCase c ts → AllReal ts → IsSpellableCase c
+case_ok c ts h r =
+    let t1 : Tokens = tok.Fixed s.Colon ∷ (target_tokens c.target ++ tok.Fixed s.Semi ∷ []) in
+    let q : AllReal (tok.Fixed s.Case ∷ (h.0 ++ t1)) = subst AllReal h.2 r in
+    let w = both (h.0 ++ t1) h.0 t1 refl q.1 in
+    (signed_ok c.value h.0 h.1 w.0, w.1.1.1.1.0)
 
 end_ok : (d : End) (ts : Tokens) → IsEnd d ts → AllReal ts → IsSpellableEnd d
 end_ok (Goto n) ts h r = let q : AllReal (goto_tokens n) = subst AllReal h r in q.1.1.1.0
@@ -96,7 +147,13 @@ end_ok (If l c o first second) ts h r =
     let v = both t2 h.1 (tok.Fixed s.Close ∷ t1) refl w.1.1 in
     let u = both t1 (goto_tokens first) (tok.Fixed s.Else ∷ goto_tokens second) refl v.1.1 in
     (operand_ok l h.0 h.2 w.0, operand_ok o h.1 h.3 v.0, u.0.1.1.1.0, u.1.1.1.1.1.0)
-end_ok (Switch on cases other) ts h r = h
+end_ok (Switch on cases other) ts h r =
+    let t1 : Tokens = tok.Fixed s.Default ∷ tok.Fixed s.Colon ∷ (target_tokens other ++ tok.Fixed s.Semi ∷ tok.Fixed s.CloseBrace ∷ []) in
+    let t2 : Tokens = tok.Fixed s.Close ∷ tok.Fixed s.OpenBrace ∷ (h.1 ++ t1) in
+    let q : AllReal (tok.Fixed s.Switch ∷ tok.Fixed s.Open ∷ (h.0 ++ t2)) = subst AllReal h.4 r in
+    let w = both (h.0 ++ t2) h.0 t2 refl q.1.1 in
+    let v = both (h.1 ++ t1) h.1 t1 refl w.1.1.1 in
+    (operand_ok on h.0 h.2 w.0, many_ok IsCase IsSpellableCase case_ok cases h.1 h.3 v.0, v.1.1.1.1.1.0)
 end_ok (Return None) ts h r = tt
 end_ok (Return (Some o)) ts h r = let q : AllReal (tok.Fixed s.Return ∷ (h.0 ++ tok.Fixed s.Semi ∷ [])) = subst AllReal h.2 r in operand_ok o h.0 h.1 (front_real h.0 (tok.Fixed s.Semi ∷ []) q.1)
 
@@ -106,35 +163,80 @@ block_ok b ts h r =
     let w = both (h.0 ++ h.1) h.0 h.1 refl q.1.1.1.1.1 in
     (q.1.1.0, many_ok IsStmt IsSpellableStmt statement_ok b.body h.0 h.2 w.0, end_ok b.end h.1 h.3 w.1)
 
-result_ok : (o : Option Scalar) (ts : Tokens) → IsResult o ts → IsSpellableResult o
-result_ok None ts h = tt
-result_ok (Some kind) ts h = h.0
+-- ---- declarations
+
+shape_ok : (f : Shape) (m : Tokens) → AllReal (shape_tokens f ++ m) → IsSpellableShape f × AllReal m
+shape_ok (Plain k) m r = (tt, r.1)
+shape_ok (Named x) m r = (r.1.0, r.1.1)
+
+length_ok : (n : Option ℕ) → AllReal (length_tokens n) → IsSpellableLength n
+length_ok None r = tt
+length_ok (Some n) r = r.1.0
+
+decl_ok : (d : Decl) → AllReal (decl_tokens d) → IsSpellableDecl d
+decl_ok d r = let w = shape_ok d.shape (tok.Name d.name ∷ length_tokens d.length) r in (w.1.0, w.0, length_ok d.length w.1.1)
+
+field_ok : (d : Decl) (ts : Tokens) → IsField d ts → AllReal ts → IsSpellableDecl d
+field_ok d ts h r = decl_ok d (both ts (decl_tokens d) (tok.Fixed s.Semi ∷ []) h r).0
+
+struct_ok : (x : StructDef) (ts : Tokens) → IsStruct x ts → AllReal ts → IsSpellableStruct x
+struct_ok x ts h r =
+    let t1 : Tokens = tok.Fixed s.CloseBrace ∷ tok.Fixed s.Semi ∷ [] in
+    let q : AllReal (tok.Fixed s.Struct ∷ tok.Name x.name ∷ tok.Fixed s.OpenBrace ∷ (h.0 ++ t1)) = subst AllReal h.2 r in
+    (q.1.0, many_ok IsField IsSpellableDecl field_ok x.fields h.0 h.1 (front_real h.0 t1 q.1.1.1))
+
+items_ok : (xs : List Operand) (ts : Tokens) → IsItems xs ts → AllReal ts → AllOf IsSpellableItem xs
+items_ok [] ts h r = tt
+items_ok (x ∷ xs) ts h r =
+    let t1 : Tokens = tok.Fixed s.CloseBrace ∷ [] in
+    let q : AllReal (tok.Fixed s.Assign ∷ tok.Fixed s.OpenBrace ∷ (h.0 ++ t1)) = subst AllReal h.2 r in
+    separated_ok IsItem IsSpellableItem item_ok (x ∷ xs) h.0 h.1 (front_real h.0 t1 q.1.1)
+
+global_ok : (g : Global) (ts : Tokens) → IsGlobal g ts → AllReal ts → IsSpellableGlobal g
+global_ok g ts h r =
+    let t1 : Tokens = h.0 ++ tok.Fixed s.Semi ∷ [] in
+    let t2 : Tokens = decl_tokens g.decl ++ t1 in
+    let q : AllReal (tok.Fixed s.Global ∷ (const_tokens g.constant ++ t2)) = subst AllReal h.2 r in
+    let w = both t2 (decl_tokens g.decl) t1 refl (back_real (const_tokens g.constant) t2 q.1) in
+    (decl_ok g.decl w.0, items_ok g.items h.0 h.1 (front_real h.0 (tok.Fixed s.Semi ∷ []) w.1))
 
 register_ok : (x : Register) (ts : Tokens) → IsRegister x ts → AllReal ts → IsSpellableRegister x
-register_ok x ts h r = let q : AllReal (tok.Fixed s.I32 ∷ tok.Name x.name ∷ []) = subst AllReal h.1 r in (h.0, q.1.0)
+register_ok x ts h r = let q : AllReal (tok.Fixed (scalar_symbol x.scalar) ∷ tok.Name x.name ∷ []) = subst AllReal h r in q.1.0
 
 declared_ok : (x : Register) (ts : Tokens) → IsDeclared x ts → AllReal ts → IsSpellableRegister x
-declared_ok x ts h r = let q : AllReal (tok.Fixed s.I32 ∷ tok.Name x.name ∷ tok.Fixed s.Semi ∷ []) = subst AllReal h.1 r in (h.0, q.1.0)
+declared_ok x ts h r = let q : AllReal (tok.Fixed (scalar_symbol x.scalar) ∷ tok.Name x.name ∷ tok.Fixed s.Semi ∷ []) = subst AllReal h r in q.1.0
+
+local_ok : (d : Decl) (ts : Tokens) → IsLocal d ts → AllReal ts → IsSpellableDecl d
+local_ok d ts h r = let q : AllReal (tok.Fixed s.Local ∷ (decl_tokens d ++ tok.Fixed s.Semi ∷ [])) = subst AllReal h r in decl_ok d (front_real (decl_tokens d) (tok.Fixed s.Semi ∷ []) q.1)
+
+-- ---- functions and programs
 
 function_ok : (f : Function) (ts : Tokens) → IsFunction f ts → AllReal ts → IsSpellableFunction f
 function_ok f ts h r =
-    let t1 : Tokens = h.3 ++ tok.Fixed s.CloseBrace ∷ [] in
-    let t2 : Tokens = h.2 ++ t1 in
-    let t3 : Tokens = tok.Fixed s.Close ∷ tok.Fixed s.OpenBrace ∷ t2 in
-    let t4 : Tokens = h.1 ++ t3 in
-    let q = both ts h.0 (tok.Name f.name ∷ tok.Fixed s.Open ∷ t4) h.9 r in
-    let w = both t4 h.1 t3 refl q.1.1.1 in
-    let v = both t2 h.2 t1 refl w.1.1.1 in
+    let t1 : Tokens = h.4 ++ tok.Fixed s.CloseBrace ∷ [] in
+    let t2 : Tokens = h.3 ++ t1 in
+    let t3 : Tokens = h.2 ++ t2 in
+    let t4 : Tokens = tok.Fixed s.Close ∷ tok.Fixed s.OpenBrace ∷ t3 in
+    let t5 : Tokens = h.1 ++ t4 in
+    let q = both ts h.0 (tok.Name f.name ∷ tok.Fixed s.Open ∷ t5) h.10 r in
+    let w = both t5 h.1 t4 refl q.1.1.1 in
+    let v = both t3 h.2 t2 refl w.1.1.1 in
+    let u = both t2 h.3 t1 refl v.1 in
     record {
       name = q.1.0;
       params = separated_ok IsRegister IsSpellableRegister register_ok f.params h.1 h.6 w.0;
-      result = result_ok f.result h.0 h.5;
-      locals = h.4;
-      registers = many_ok IsDeclared IsSpellableRegister declared_ok f.registers h.2 h.7 v.0;
-      blocks = many_ok IsBlock IsSpellableBlock block_ok f.blocks h.3 h.8 (front_real h.3 (tok.Fixed s.CloseBrace ∷ []) v.1);
+      locals = many_ok IsLocal IsSpellableDecl local_ok f.locals h.2 h.7 v.0;
+      registers = many_ok IsDeclared IsSpellableRegister declared_ok f.registers h.3 h.8 u.0;
+      blocks = many_ok IsBlock IsSpellableBlock block_ok f.blocks h.4 h.9 (front_real h.4 (tok.Fixed s.CloseBrace ∷ []) u.1);
     }
 
 pub program_ok : (p : Program) (ts : Tokens) → IsProgram p ts → AllReal ts → IsSpellable p
 program_ok p ts h r =
-    let q : AllReal (tok.Fixed s.Gimple ∷ tok.Number 1 ∷ tok.Fixed s.Semi ∷ h.0) = subst AllReal h.4 r in
-    record { structs = h.1; globals = h.2; functions = many_ok IsFunction IsSpellableFunction function_ok p.functions h.0 h.3 q.1.1.1 }
+    let q : AllReal (tok.Fixed s.Gimple ∷ tok.Number 1 ∷ tok.Fixed s.Semi ∷ (h.0 ++ (h.1 ++ h.2))) = subst AllReal h.6 r in
+    let w = both (h.0 ++ (h.1 ++ h.2)) h.0 (h.1 ++ h.2) refl q.1.1.1 in
+    let v = both (h.1 ++ h.2) h.1 h.2 refl w.1 in
+    record {
+      structs = many_ok IsStruct IsSpellableStruct struct_ok p.structs h.0 h.3 w.0;
+      globals = many_ok IsGlobal IsSpellableGlobal global_ok p.globals h.1 h.4 v.0;
+      functions = many_ok IsFunction IsSpellableFunction function_ok p.functions h.2 h.5 v.1;
+    }

@@ -214,13 +214,22 @@ IsSpellableNumber (negsuc n) = suc n < 2 ^ 64
 abbrev pub IsSpellableOperand : Operand → Type 0
 IsSpellableOperand (Reg x) = IsNameText x
 IsSpellableOperand (Number z) = IsSpellableNumber z
-IsSpellableOperand Null = ⊥
-IsSpellableOperand (Address x z) = ⊥
+IsSpellableOperand Null = Unit {0}
+IsSpellableOperand (Address x z) = IsNameText x × IsSpellableNumber z
 
-abbrev pub IsSpellableOp : Op → Type 0
-IsSpellableOp op.Add = Unit {0}
-IsSpellableOp op.Sub = Unit {0}
-IsSpellableOp other = ⊥
+-- an item of a global is no register
+abbrev pub IsSpellableItem : Operand → Type 0
+IsSpellableItem (Reg x) = ⊥
+IsSpellableItem (Number z) = IsSpellableNumber z
+IsSpellableItem Null = Unit {0}
+IsSpellableItem (Address x z) = IsNameText x × IsSpellableNumber z
+
+abbrev pub IsSpellableBase : Base → Type 0
+IsSpellableBase (base.Reg x) = IsNameText x
+IsSpellableBase (base.Variable x) = IsNameText x
+
+abbrev pub IsSpellablePlace : Place → Type 0
+IsSpellablePlace p = IsSpellableBase p.base × IsSpellableNumber p.offset
 
 abbrev pub IsSpellableTarget : Option Bytes → Type 0
 IsSpellableTarget None = Unit {0}
@@ -228,43 +237,58 @@ IsSpellableTarget (Some x) = IsNameText x
 
 abbrev pub IsSpellableStmt : Stmt → Type 0
 IsSpellableStmt (Copy x from) = IsNameText x × IsSpellableOperand from
-IsSpellableStmt (Arith x l o r) = IsNameText x × IsSpellableOperand l × IsSpellableOp o × IsSpellableOperand r
+IsSpellableStmt (Arith x l o r) = IsNameText x × IsSpellableOperand l × IsSpellableOperand r
+IsSpellableStmt (Compare x l c r) = IsNameText x × IsSpellableOperand l × IsSpellableOperand r
+IsSpellableStmt (Convert x kind from) = IsNameText x × IsSpellableOperand from
+IsSpellableStmt (Load x kind place) = IsNameText x × IsSpellablePlace place
+IsSpellableStmt (Store kind place from) = IsSpellablePlace place × IsSpellableOperand from
 IsSpellableStmt (Call to f xs) = IsSpellableTarget to × IsNameText f × AllOf IsSpellableOperand xs
+IsSpellableStmt (Get x) = IsNameText x
 IsSpellableStmt (Put from) = IsSpellableOperand from
-IsSpellableStmt (Compare x l c r) = ⊥
-IsSpellableStmt (Convert x kind from) = ⊥
-IsSpellableStmt (Load x kind place) = ⊥
-IsSpellableStmt (Store kind place from) = ⊥
-IsSpellableStmt (Get x) = ⊥
-IsSpellableStmt Abort = ⊥
+IsSpellableStmt Abort = Unit {0}
+
+abbrev pub IsSpellableCase : Case → Type 0
+IsSpellableCase c = IsSpellableNumber c.value × (c.target < 2 ^ 64)
 
 abbrev pub IsSpellableEnd : End → Type 0
 IsSpellableEnd (Goto n) = n < 2 ^ 64
 IsSpellableEnd (If l c r first second) = IsSpellableOperand l × IsSpellableOperand r × (first < 2 ^ 64) × (second < 2 ^ 64)
-IsSpellableEnd (Switch on cases other) = ⊥
+IsSpellableEnd (Switch on cases other) = IsSpellableOperand on × AllOf IsSpellableCase cases × (other < 2 ^ 64)
 IsSpellableEnd (Return None) = Unit {0}
 IsSpellableEnd (Return (Some o)) = IsSpellableOperand o
 
 abbrev pub IsSpellableBlock : Block → Type 0
 IsSpellableBlock b = (b.label < 2 ^ 64) × AllOf IsSpellableStmt b.body × IsSpellableEnd b.end
 
-abbrev pub IsSpellableResult : Option Scalar → Type 0
-IsSpellableResult None = Unit {0}
-IsSpellableResult (Some kind) = kind ≡ I32
+abbrev pub IsSpellableShape : Shape → Type 0
+IsSpellableShape (Plain kind) = Unit {0}
+IsSpellableShape (Named x) = IsNameText x
+
+abbrev pub IsSpellableLength : Option ℕ → Type 0
+IsSpellableLength None = Unit {0}
+IsSpellableLength (Some n) = n < 2 ^ 64
+
+abbrev pub IsSpellableDecl : Decl → Type 0
+IsSpellableDecl d = IsNameText d.name × IsSpellableShape d.shape × IsSpellableLength d.length
+
+abbrev pub IsSpellableStruct : StructDef → Type 0
+IsSpellableStruct x = IsNameText x.name × AllOf IsSpellableDecl x.fields
+
+abbrev pub IsSpellableGlobal : Global → Type 0
+IsSpellableGlobal g = IsSpellableDecl g.decl × AllOf IsSpellableItem g.items
 
 abbrev pub IsSpellableRegister : Register → Type 0
-IsSpellableRegister r = (r.scalar ≡ I32) × IsNameText r.name
+IsSpellableRegister r = IsNameText r.name
 
 pub record IsSpellableFunction (f : Function) : Type 0 where
   pub name : IsNameText f.name
   pub params : AllOf IsSpellableRegister f.params
-  pub result : IsSpellableResult f.result
-  pub locals : f.locals ≡ []
+  pub locals : AllOf IsSpellableDecl f.locals
   pub registers : AllOf IsSpellableRegister f.registers
   pub blocks : AllOf IsSpellableBlock f.blocks
 
--- names are names and no keywords, and numbers have 64 bits
+-- names are names and no keywords, numbers have 64 bits, and no item of a global is a register
 pub record IsSpellable (p : Program) : Type 0 where
-  pub structs : p.structs ≡ []
-  pub globals : p.globals ≡ []
+  pub structs : AllOf IsSpellableStruct p.structs
+  pub globals : AllOf IsSpellableGlobal p.globals
   pub functions : AllOf IsSpellableFunction p.functions

@@ -8,8 +8,8 @@ use Rattle.gimple_tokens.specs.Front.{walk}
 use Rattle.gimple_tokens.specs.Spots.{spot_at, spot_before}
 use Rattle.token_law.specs.declared.cursor.Fault.{Fault}
 use Rattle.token_law.specs.declared.cursor.Fault.TheVariants as read
-use Rattle.gimple_text.specs.Grammar.{IsProgram}
-use Rattle.gimple_text.specs.TokenFaults.{BeginsProgram}
+use Rattle.gimple_grammar.specs.Grammar.{IsProgram}
+use Rattle.gimple_grammar.specs.TokenFaults.{BeginsProgram}
 use Rattle.gimple_text.specs.declared.fault.TextFault.{TextFault}
 use Rattle.gimple_text.specs.declared.fault.TextFault.TheVariants.{Memory, BadByte, BadToken, EarlyEnd}
 

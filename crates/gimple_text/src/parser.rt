@@ -3,28 +3,14 @@
 ghost use Rattle.std.specs.Prelude.{◌≡◌, ◌<◌, ◌^◌, ◌-◌, length, IfOk, IfErr};
 ghost use Rattle.gimple_ir.specs.declared.program.Program as syntax;
 ghost use Rattle.gimple_tokens.specs.Spots as spots;
-ghost use Rattle.gimple_text.specs.Grammar.{IsProgram};
-ghost use Rattle.gimple_text.specs.TokenFaults.{FaultOf, ReadsAs};
 ghost use Rattle.gimple_text.specs.Parse.{Spells, FaultOrMemory, ParsesAs, Judged, OneProgram, FaultExcludes, OneFault};
 
 use crate::fault::TextFault;
-use crate::grammar::program;
+use gimple_grammar::read;
 use gimple_ir::Program;
-use gimple_tokens::{Spot, Token, left_after, lex_front, spot_at};
+use gimple_tokens::{Spot, left_after, lex_front, spot_at};
 use std::alloc::Global;
-use token_law::{Cursor, Fault};
-
-// The program that the tokens spell.
-fn read(alloc: Global, tokens: &[Token]) -> Result<Program, Fault>
-    // What is read is spelled so.
-    ensures found { IfOk result (λ p. IsProgram p tokens.now) }
-    // What is spelled so is read, unless memory runs out.
-    ensures only { (p : syntax.Program) → IsProgram p tokens.now → ReadsAs p result }
-    // The tokens before the fault begin a program, and with it they do not.
-    ensures fault { IfErr result (FaultOf tokens.now) }
-{
-    program(alloc, &mut Cursor::new(tokens))
-}
+use token_law::Fault;
 
 // The spot where so many bytes are left.
 fn spot_left(bytes: &[u8], left: usize) -> Spot

@@ -4,3 +4,6 @@ pub mod Runs
 pub mod OneList
 pub mod Real
 pub mod Pieces
+pub mod SpotLaws
+pub mod NameLaws
+pub mod Nexts

@@ -6,10 +6,10 @@ use Rattle.std.proofs.lemmas.Bool.Decides.{nat_tests}
 use Rattle.std.proofs.lemmas.Fmt.{digits_decimal, digits_value-decimal, decimal_nonempty}
 use Rattle.std.proofs.lemmas.Str.Parse.{IsNumeralModel, numerals_by_fold}
 use Rattle.std.specs.Fmt.{decimal, signed_decimal}
-use Rattle.gimple_tokens.specs.declared.token.Symbol.TheVariants as s
+use Rattle.gimple_tokens.specs.declared.token.Symbol.{Symbol}
 use Rattle.gimple_tokens.specs.declared.token.Token.{Token}
 use Rattle.gimple_tokens.specs.declared.token.Token.TheVariants as tok
-use Rattle.gimple_tokens.specs.Lexing.{Bytes, is_blank, is_digit, starts_name, goes_on_name, next_is, skip, front, back, keyword, word, mark_at, token_at, LexesFrom, Lexes, AllPass, IsNameText, number_after, number_token}
+use Rattle.gimple_tokens.specs.Lexing.{Bytes, is_blank, is_digit, starts_name, goes_on_name, next_is, skip, front, back, keyword, word, word_at, mark_at, token_at, LexesFrom, Lexes, AllPass, IsNameText, number_after, number_token}
 
 -- the next byte does not pass
 abbrev pub Stops : (ℕ → Bool) → Bytes → Type 0
@@ -37,17 +37,23 @@ differs p b c pass fail = by (b == c) refl where
 stays : (p : ℕ → Bool) (b : ℕ) (bs : Bytes) → p b ≡ true → p 32 ≡ false → p 9 ≡ false → p 10 ≡ false → p 13 ≡ false → p 47 ≡ false → skip false (b ∷ bs) ≡ b ∷ bs
 stays p b bs h a1 a2 a3 a4 a5 = rw (differs p b 32 h a1, differs p b 9 h a2, differs p b 10 h a3, differs p b 13 h a4, differs p b 47 h a5) refl
 
-pub name_lexes : (x rest : Bytes) (ts : List Token) → IsNameText x → Stops goes_on_name rest → Lexes rest ts → Lexes (x ++ rest) (tok.Name x ∷ ts)
-name_lexes [] rest ts h stop l = absurd h
-name_lexes (b ∷ bs) rest ts h stop l =
-    let starts : starts_name b ≡ true = h.0 in
+-- a word, whether it is a name or a keyword
+pub word_lexes : (b : ℕ) (bs rest : Bytes) (ts : List Token) → starts_name b ≡ true → AllPass goes_on_name bs → Stops goes_on_name rest → Lexes rest ts → Lexes (b ∷ (bs ++ rest)) (word (b ∷ bs) (keyword (b ∷ bs)) ∷ ts)
+word_lexes b bs rest ts starts pass stop l =
     let on : goes_on_name b ≡ true = rw starts refl in
     let e1 : skip false (b ∷ (bs ++ rest)) ≡ b ∷ (bs ++ rest) = stays starts_name b (bs ++ rest) starts refl refl refl refl refl in
-    let f : front goes_on_name (b ∷ (bs ++ rest)) ≡ b ∷ bs = front_is goes_on_name (b ∷ bs) rest (on, h.1) stop in
-    let g : back goes_on_name (b ∷ (bs ++ rest)) ≡ rest = back_is goes_on_name (b ∷ bs) rest (on, h.1) stop in
-    let e2 : token_at (b ∷ (bs ++ rest)) ≡ Some (word (front goes_on_name (b ∷ (bs ++ rest))) (keyword (front goes_on_name (b ∷ (bs ++ rest)))), back goes_on_name (b ∷ (bs ++ rest))) = rw starts refl in
-    let e3 : Some (word (front goes_on_name (b ∷ (bs ++ rest))) (keyword (front goes_on_name (b ∷ (bs ++ rest)))), back goes_on_name (b ∷ (bs ++ rest))) ≡ Some (tok.Name (b ∷ bs), rest) = rw (f, g, h.2) refl in
+    let f : front goes_on_name (b ∷ (bs ++ rest)) ≡ b ∷ bs = front_is goes_on_name (b ∷ bs) rest (on, pass) stop in
+    let g : back goes_on_name (b ∷ (bs ++ rest)) ≡ rest = back_is goes_on_name (b ∷ bs) rest (on, pass) stop in
+    let e2 : token_at (b ∷ (bs ++ rest)) ≡ Some (word_at (b ∷ (bs ++ rest))) = rw starts refl in
+    let e3 : Some (word_at (b ∷ (bs ++ rest))) ≡ Some (word (b ∷ bs) (keyword (b ∷ bs)), rest) = rw (f, g) refl in
     (rest, ap token_at e1 ∙ e2 ∙ e3, l)
+
+pub name_lexes : (x rest : Bytes) (ts : List Token) → IsNameText x → Stops goes_on_name rest → Lexes rest ts → Lexes (x ++ rest) (tok.Name x ∷ ts)
+name_lexes [] rest ts h stop l = absurd h
+name_lexes (b ∷ bs) rest ts h stop l = subst (λ o. Lexes (b ∷ (bs ++ rest)) (word (b ∷ bs) o ∷ ts)) h.2 (word_lexes b bs rest ts h.0 h.1 stop l)
+
+pub keyword_lexes : (b : ℕ) (bs : Bytes) (x : Symbol) (rest : Bytes) (ts : List Token) → keyword (b ∷ bs) ≡ Some x → starts_name b ≡ true → AllPass goes_on_name bs → Stops goes_on_name rest → Lexes rest ts → Lexes (b ∷ (bs ++ rest)) (tok.Fixed x ∷ ts)
+keyword_lexes b bs x rest ts e starts pass stop l = subst (λ o. Lexes (b ∷ (bs ++ rest)) (word (b ∷ bs) o ∷ ts)) e (word_lexes b bs rest ts starts pass stop l)
 
 own : IsNumeralModel (AllPass is_digit) (number_after 0)
 own = numerals_by_fold (AllPass is_digit) (search rules) number_after (search rules)

@@ -52,6 +52,10 @@ pub shorter : (bs : Bytes) (t : Token) (rest : Bytes) → token_at bs ≡ Some (
 shorter [] t rest e = absurd cc
 shorter (b ∷ bs) t rest e = omega (arith, within_is (length bs) (token_at (b ∷ bs)) t rest (token_within b bs) e, skip_length false rest)
 
+pub takes : (bs : Bytes) (t : Token) (rest : Bytes) → token_at bs ≡ Some (t, rest) → length rest ≤ length bs
+takes [] t rest e = absurd cc
+takes (b ∷ bs) t rest e = omega (arith, within_is (length bs) (token_at (b ∷ bs)) t rest (token_within b bs) e)
+
 -- ---- lists of tokens
 
 pub pushed : (bs : Bytes) (ts : List Token) (rest : Bytes) (t : Token) (mid : Bytes) → LexesUpTo bs ts rest → token_at rest ≡ Some (t, mid) → LexesUpTo bs (ts ++ t ∷ []) (skip false mid)

@@ -1,5 +1,5 @@
 -- The tokens of bytes.
-use Rattle.std.specs.Prelude.{◌≡◌, ℕ, ◌+◌, ◌-◌, ◌*◌, ◌<◌, ◌^◌, ◌==◌, nat_le, Bool, true, false, not, ◌&&◌, ◌||◌, if◌then◌else◌, List, [], ◌∷◌, ◌++◌, Option, Some, None, codes}
+use Rattle.std.specs.Prelude.{◌≡◌, ◌≢◌, ℕ, ◌+◌, ◌-◌, ◌*◌, ◌<◌, ◌^◌, ◌==◌, nat_le, Bool, true, false, not, ◌&&◌, ◌||◌, if◌then◌else◌, List, [], ◌∷◌, ◌++◌, Option, Some, None, codes}
 use Rattle.std.specs.Str.{bytes_eq}
 use Rattle.gimple_tokens.specs.declared.token.Symbol.{Symbol}
 use Rattle.gimple_tokens.specs.declared.token.Symbol.TheVariants as s
@@ -161,10 +161,26 @@ abbrev pub AllPass : (ℕ → Bool) → Bytes → Type 0
 AllPass p [] = Unit {0}
 AllPass p (b ∷ bs) = (p b ≡ true) × AllPass p bs
 
+abbrev pub all_pass : (ℕ → Bool) → Bytes → Bool
+all_pass p [] = true
+all_pass p (b ∷ bs) = if p b then all_pass p bs else false
+
+-- digits, and no more than fit in 64 bits
+abbrev pub IsNumeral : Bytes → Type 0
+IsNumeral bs = (bs ≢ []) × (all_pass is_digit bs ≡ true) × (number_after 0 bs < 2 ^ 64)
+
 -- a name, and no keyword
 abbrev pub IsNameText : Bytes → Type 0
 IsNameText [] = ⊥
 IsNameText (b ∷ bs) = (starts_name b ≡ true) × AllPass goes_on_name bs × (keyword (b ∷ bs) ≡ None)
+
+abbrev pub is_none : Option Symbol → Bool
+is_none None = true
+is_none (Some x) = false
+
+abbrev pub is_name_text : Bytes → Bool
+is_name_text [] = false
+is_name_text (b ∷ bs) = starts_name b && all_pass goes_on_name bs && is_none (keyword (b ∷ bs))
 
 -- ---- tokens of bytes
 

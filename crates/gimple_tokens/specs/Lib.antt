@@ -1,3 +1,4 @@
 pub mod Lexing
 pub mod Front
 pub mod Spots
+pub mod Next

@@ -2,10 +2,14 @@
 #![tactic(auto)]
 
 mod front;
+mod next;
 mod scan;
 mod spot;
 mod token;
+mod words;
 
 pub use front::{Lexed, left_after, lex_front};
+pub use next::{Cursor, Next, next_token};
 pub use spot::{Spot, spot_at};
 pub use token::{Symbol, Token};
+pub use words::{is_name, number_of};

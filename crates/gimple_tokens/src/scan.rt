@@ -14,19 +14,19 @@ fn is_blank(b: u8) -> bool
     b == b' ' || b == b'\t' || b == b'\n' || b == b'\r'
 }
 
-fn is_digit(b: u8) -> bool
+pub fn is_digit(b: u8) -> bool
     ensures { result ≡ spec.is_digit b }
 {
     48 <= b && b <= 57
 }
 
-fn starts_name(b: u8) -> bool
+pub fn starts_name(b: u8) -> bool
     ensures { result ≡ spec.starts_name b }
 {
     97 <= b && b <= 122 || 65 <= b && b <= 90 || b == b'_'
 }
 
-fn goes_on_name(b: u8) -> bool
+pub fn goes_on_name(b: u8) -> bool
     ensures { result ≡ spec.goes_on_name b }
 {
     starts_name(b) || is_digit(b) || b == b'.'
@@ -295,7 +295,7 @@ fn times_ten_plus(n: u64, digit: u8) -> Option<u64>
 
 // The number that digits write, where it has 64 bits.
 #[tactic(auto, using(crate::proofs::Numbers::grows))]
-fn value(digits: &[u8]) -> Option<u64>
+pub fn value(digits: &[u8]) -> Option<u64>
     ensures { SomeIff result (spec.number_after 0 digits.now < 2 ^ 64) (spec.number_after 0 digits.now) }
 {
     let mut rest = digits;

@@ -10,7 +10,7 @@ pub struct Spot {
     pub column: u64,
 }
 
-fn past(spot: Spot, byte: u8) -> Spot
+pub fn past(spot: Spot, byte: u8) -> Spot
     requires line { spot.line < 2 ^ 60 }
     requires column { spot.column < 2 ^ 60 }
     ensures { result ≡ spec.spot_past spot byte }

@@ -9,7 +9,7 @@ use Rattle.gimple_tokens.specs.declared.token.Token.TheVariants as tok
 use Rattle.gimple_tokens.specs.contracts.token.Symbol.{the_type}
 use Rattle.std.specs.Prelude.{codes}
 use Rattle.gimple_tokens.specs.Lexing.{same, IsNameText, IsReal}
-use Rattle.token_law.specs.Reading.{Tokens, Outcome, Parser, ◌>>=◌, pure, choose, keyed, sees, sees_name, not_before, leaf_at, leaf, of_symbol, lookup, one_of, fixed, name, number, one, end_of_text}
+use Rattle.token_law.specs.Reading.{Tokens, Outcome, Parser, ◌>>=◌, pure, choose, keyed, sees, sees_name, not_before, leaf_at, leaf, of_symbol, lookup, one_of, is_some, sees_one, fixed, name, number, one, end_of_text}
 use Rattle.token_law.proofs.ReadsExactly.{ReadsExactly, IsHeadTest, Begins, IsThen, IsEither, IsPure, Avoids, pure_exact, then_exact, choose_exact, never, done, ok_parts, test_cases, recast}
 
 -- ---- tests of the next token
@@ -302,3 +302,25 @@ pub one_of_exact : {A : Type 0} (key : A → Symbol) (all : List A) → ((a : A)
 one_of_exact key all found b = recast (leaf_exact (one_of key all) (of_symbol (lookup key all)) (λ ts. refl) b (tok.Fixed (key b)) (found b) tt)
     (λ a ts h. h.2 ∙ ap (λ u. u ∷ []) (key_is key all h.0 a h.1))
     (λ a ts h. (tok.Fixed (key a), found a, h))
+
+pub sees_one_head : {A : Type 0} (key : A → Symbol) (all : List A) → IsHeadTest (sees_one key all)
+sees_one_head key all = record { none = refl; same = λ t m m'. refl }
+
+pub sees_one_self : {A : Type 0} (key : A → Symbol) (all : List A) → ((a : A) → lookup key all (key a) ≡ Some a) → (a : A) (m : Tokens) → sees_one key all (tok.Fixed (key a) ∷ m) ≡ true
+sees_one_self key all found a m = ap is_some (found a)
+
+-- ---- what a symbol that comes next keeps from being next
+
+pub seen_one : {A : Type 0} (key : A → Symbol) (all : List A) (x : Symbol) (rest : Tokens) → is_some (lookup key all x) ≡ false → sees x rest ≡ true → sees_one key all rest ≡ false
+seen_one key all x rest differ e = let h = sees_is x rest e in ap (sees_one key all) h.1 ∙ differ
+
+pub seen_other : (x y : Symbol) (rest : Tokens) → sameb the_type x y ≡ false → sees x rest ≡ true → sees y rest ≡ false
+unfolding sees
+seen_other x y rest differ e = let h = sees_is x rest e in ap (sees y) h.1 ∙ differ
+
+pub seen_no_name : (x : Symbol) (rest : Tokens) → sees x rest ≡ true → sees_name rest ≡ false
+unfolding sees_name
+seen_no_name x rest e = let h = sees_is x rest e in ap sees_name h.1
+
+pub seen_test : (test : Tokens → Bool) (x : Symbol) (rest : Tokens) → ((m : Tokens) → test (tok.Fixed x ∷ m) ≡ false) → sees x rest ≡ true → test rest ≡ false
+seen_test test x rest differ e = let h = sees_is x rest e in ap test h.1 ∙ differ h.0

@@ -98,6 +98,15 @@ lookup key (a ∷ more) y = if sameb the_type y (key a) then Some a else lookup 
 abbrev pub one_of : {A : Type 0} → (A → Symbol) → List A → Parser A
 one_of key all = leaf (of_symbol (lookup key all))
 
+abbrev pub is_some : {A : Type 0} → Option A → Bool
+is_some None = false
+is_some (Some a) = true
+
+-- the symbol of one of these values comes next
+abbrev pub sees_one : {A : Type 0} → (A → Symbol) → List A → Tokens → Bool
+sees_one key all [] = false
+sees_one key all (t ∷ ts) = is_some (of_symbol (lookup key all) t)
+
 unfoldable pub fixed : Symbol → Parser (Unit {0})
 fixed x = λ ts. if sees x ts then Ok (tt, drop 1 ts) else Err (length ts)
 

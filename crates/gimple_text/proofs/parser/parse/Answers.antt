@@ -1,8 +1,8 @@
 use Rattle.std.proofs.Common.{subst, ap, length}
 use Rattle.std.specs.Prelude.{IfOk, IfErr}
 use Rattle.gimple_ir.specs.declared.program.Program.{Program}
-use Rattle.gimple_text.specs.Grammar.{IsProgram}
-use Rattle.gimple_text.specs.TokenFaults.{FaultOf, ReadsAs}
+use Rattle.gimple_grammar.specs.Grammar.{IsProgram}
+use Rattle.gimple_grammar.specs.TokenFaults.{FaultOf, ReadsAs}
 use Rattle.gimple_text.proofs.Composed.{is_found, is_only, fault_of}
 use Rattle.gimple_text.proofs.parser.parse.Goals as goal
 

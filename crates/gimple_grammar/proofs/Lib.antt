@@ -1,0 +1,6 @@
+pub mod ValueLaws
+pub mod BodyLaws
+pub mod EndLaws
+pub mod DeclarationLaws
+pub mod ProgramLaws
+pub mod Theorems

@@ -1,0 +1,9 @@
+use Rattle.std.proofs.Common.{◌≡◌, ◌-◌, length, [], ◌∷◌}
+use Rattle.token_law.specs.Reading.{many_from}
+use Rattle.gimple_grammar.specs.Readers.{begins_decl, field}
+use Rattle.gimple_grammar.proofs.declarations.fields.Given as goal
+
+abbrev pub invariant-loop-turn : goal.invariant-loop-turn
+invariant-loop-turn l =
+    many_from begins_decl field (length l.fn.tokens) [] l.fn.tokens
+    ≡ many_from begins_decl field (length l.fn.tokens - l._turn) l.found l.tokens

@@ -1,0 +1,9 @@
+use Rattle.std.proofs.Common.{◌≡◌, ◌-◌, length, [], ◌∷◌}
+use Rattle.token_law.specs.Reading.{many_from}
+use Rattle.gimple_grammar.specs.Readers.{begins_function, function}
+use Rattle.gimple_grammar.proofs.whole.functions.Given as goal
+
+abbrev pub invariant-loop-turn : goal.invariant-loop-turn
+invariant-loop-turn l =
+    many_from begins_function function (length l.fn.tokens) [] l.fn.tokens
+    ≡ many_from begins_function function (length l.fn.tokens - l._turn) l.found l.tokens

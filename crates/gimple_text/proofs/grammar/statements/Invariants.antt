@@ -1,9 +1,0 @@
-use Rattle.std.proofs.Common.{◌≡◌, ◌-◌, length, [], ◌∷◌}
-use Rattle.token_law.specs.Reading.{many_from}
-use Rattle.gimple_text.specs.Readers.{begins_statement, statement}
-use Rattle.gimple_text.proofs.grammar.statements.Given as goal
-
-abbrev pub invariant-loop-turn : goal.invariant-loop-turn
-invariant-loop-turn l =
-    many_from begins_statement statement (length l.fn.tokens) [] l.fn.tokens
-    ≡ many_from begins_statement statement (length l.fn.tokens - l._turn) l.found l.tokens
