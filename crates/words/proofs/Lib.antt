@@ -1,1 +1,4 @@
 pub mod RunLaws
+pub mod Gathering
+pub mod Bounds
+pub mod Twins

@@ -1,3 +1,10 @@
 pub mod Numbers
+pub mod Prefix
+pub mod Bytes
+pub mod Items
+pub mod Sequence
+pub mod Gathered
+pub mod Limits
+pub mod Twins
 pub mod Words
 pub mod RunWords

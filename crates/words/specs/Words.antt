@@ -1,68 +1,40 @@
 -- What a list of words means. Words count from 1.
-use Rattle.std.specs.Prelude.{ℕ, ◌-◌, List, [], ◌∷◌, length, drop, slice_index_or, Bool, false, not, ◌&&◌, ◌||◌, ◌==◌, codes, if◌then◌else◌, None, Result, Ok, Err}
-use Rattle.std.specs.Str.{bytes_eq}
-use Rattle.gimple_ir.specs.declared.options.Passes.{Passes}
-use Rattle.gimple_ir.specs.declared.options.Params.{Params}
-use Rattle.words.specs.declared.options.Name.{Name}
-use Rattle.words.specs.declared.options.Name.TheVariants.{Standard, Word}
-use Rattle.words.specs.declared.options.SourceName.TheVariants.{File}
+use Rattle.std.specs.Prelude.{ℕ, ◌+◌, List, length, ◌==◌, codes, if◌then◌else◌, Option, None, Some, Result, Ok, Err}
+use Rattle.words.specs.declared.options.SourceName.{SourceName}
 use Rattle.words.specs.declared.options.Options.{Options}
 use Rattle.words.specs.declared.options.UsageFault.{UsageFault}
+use Rattle.words.specs.declared.gathered.Gathered.{Gathered}
+use Rattle.words.specs.Gathered.{gathered_words, options_from}
+use Rattle.words.specs.Sequence.{fault_at}
+use Rattle.words.specs.Twins.{least_twin, stored_names}
+pub use Rattle.words.specs.Bytes.{word_at, bytes_of}
 
-abbrev pub word_at : List (List ℕ) → ℕ → List ℕ
-word_at words k = slice_index_or words (k - 1) []
+abbrev pub unless_twin : Options → Option ℕ → Result Options UsageFault
+unless_twin o None = Ok o
+unless_twin o (Some word) = Err (fault_at word 5)
 
--- the bytes that a name stands for
-abbrev pub bytes_of : List (List ℕ) → Name → List ℕ
-bytes_of words Standard = 45 ∷ []
-bytes_of words (Word word from) = drop from (word_at words word)
+abbrev pub with_source : List (List ℕ) → Gathered → Option SourceName → Result Options UsageFault
+with_source words g None = Err (fault_at (length words + 1) 1)
+with_source words g (Some source) =
+    let o = options_from g source in
+    unless_twin o (least_twin words (stored_names o) (stored_names o))
 
--- "-", or a word that does not begin so and is not empty
-unfoldable pub is_input : List ℕ → Bool
-is_input [] = false
-is_input (b ∷ bs) = not (b == 45) || (length bs == 0)
+abbrev pub finished : List (List ℕ) → Result Gathered UsageFault → Result Options UsageFault
+finished words (Err f) = Err f
+finished words (Ok g) = with_source words g g.source
 
--- an input, "-o" and a name
-unfoldable pub is_plain_list : List (List ℕ) → Bool
-is_plain_list (input ∷ option ∷ output ∷ []) = is_input input && bytes_eq option (codes "-o") && not (length output == 0)
-is_plain_list words = false
-
-abbrev pub no_passes : Passes
-no_passes = record { cp = false; cp_clone = false; bit_cp = false; vrp = false; sra = false; modref = false; icf = false }
-
-abbrev pub default_params : Params
-default_params = record {
-  ipa_cp_value_list_size = 8;
-  ipa_cp_eval_threshold = 500;
-  ipa_cp_unit_growth = 10;
-  ipa_cp_large_unit_insns = 16000;
-  ipa_max_agg_items = 16;
-  ipa_sra_max_replacements = 8;
-  ipa_sra_ptr_growth_factor = 2;
-  ipa_sra_unit_growth = 10;
-  modref_max_bases = 32;
-  modref_max_refs = 16;
-  modref_max_accesses = 16;
-}
-
-unfoldable pub plain_options : Options
-plain_options = record {
-  source = File (Word 1 0);
-  output = Word 3 0;
-  cgraph = None;
-  icf = None;
-  cp = None;
-  sra = None;
-  modref = None;
-  summary = None;
-  passes = no_passes;
-  params = default_params;
-  workers = 1;
-}
-
--- the options of the words, or their first fault
+-- The options of the words, or their first fault: that of the first faulty word, then a missing input, then one name for
+-- two stores.
 unfoldable pub options_of : List (List ℕ) → Result Options UsageFault
-options_of words = if is_plain_list words then Ok plain_options else Err (record { word = 0; code = 0 })
+options_of words = finished words (gathered_words words)
 
+-- the text of a usage fault's code
 unfoldable pub usage_text : ℕ → List ℕ
-usage_text code = codes "U00 words"
+usage_text code =
+    if code == 1 then codes "U01 no input"
+    else (if code == 2 then codes "U02 unknown option"
+    else (if code == 3 then codes "U03 bad value"
+    else (if code == 4 then codes "U04 second input or output"
+    else (if code == 5 then codes "U05 one name for two outputs"
+    else (if code == 7 then codes "U07 value missing"
+    else codes "U08 unknown parameter")))))

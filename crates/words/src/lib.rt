@@ -1,9 +1,14 @@
 //! The words of `gimple-ipa` and `gimple-run`, and what they ask for.
 #![tactic(auto)]
 
+mod gathered;
+mod item;
+mod keys;
 mod numbers;
 mod options;
+mod prefix;
 mod read;
+mod read_item;
 mod run_options;
 mod run_words;
 
