@@ -49,7 +49,7 @@ fn main(rt: HostRuntime) -> ExitCode {
             ExitCode::from(optimise_alone(rt.alloc(), &words, &mut shelf).status)
         }
         Err(NoWords::Unreadable) => {
-            let _ = rt.eprint("gimple-ipa: word 0: error: U00 words\n");
+            let _ = rt.eprint("gimple-ipa: word 1: error: U02 unknown option\n");
             ExitCode::from(2)
         }
         Err(NoWords::Memory) => {

@@ -137,7 +137,7 @@ fn shelves(rt: HostRuntime) -> Result<(), TestFail> {
             fails: &[],
             status: 2,
             stored: None,
-            told: "gimple-ipa: word 0: error: U00 words\n",
+            told: "gimple-ipa: word 2: error: U04 second input or output\n",
         },
         Run {
             line: "",
@@ -145,7 +145,7 @@ fn shelves(rt: HostRuntime) -> Result<(), TestFail> {
             fails: &[],
             status: 2,
             stored: None,
-            told: "gimple-ipa: word 0: error: U00 words\n",
+            told: "gimple-ipa: word 1: error: U01 no input\n",
         },
     ];
     for run in &runs {
