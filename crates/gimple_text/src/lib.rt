@@ -11,4 +11,6 @@ pub use parser::{fault_excludes, one_fault, one_program, parse};
 pub use printer::{canon_spells, print, spellable_has_text};
 
 #[cfg(test)]
+mod productions;
+#[cfg(test)]
 mod tests;

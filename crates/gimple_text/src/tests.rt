@@ -98,7 +98,7 @@ fn canonical_texts_come_back(rt: HostRuntime) -> Result<(), Fail> {
 fn tokens_come_one_by_one(rt: HostRuntime) {
     let start = Cursor {
         place: 0,
-        spot: at(1, 1),
+        spot: Spot { line: 1, column: 1 },
     };
     let text = b" // c\n x1.y=";
     let name = next_token(text, start);

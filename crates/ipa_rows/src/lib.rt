@@ -5,3 +5,7 @@
 mod first_path;
 #[cfg(test)]
 mod run;
+#[cfg(test)]
+mod text_faults;
+#[cfg(test)]
+mod whole_profile;

@@ -38,3 +38,12 @@ pub fn comes_out(alloc: Global, run: &Run) -> Result<bool, AllocError> {
     };
     Ok(stored && finish.status == run.status && shelf.told() == run.told.as_bytes())
 }
+
+/// Whether the run on this source ends with status 1, this message and nothing stored.
+pub fn is_refused(alloc: Global, source: &[u8], told: &str) -> Result<bool, AllocError> {
+    let mut shelf = MemoryShelf::new(alloc, 1000, &[])?;
+    shelf.add_source(b"a.g", source)?;
+    let words = words_of(alloc, "a.g -o b.g")?;
+    let finish = optimise_alone(alloc, &words, &mut shelf);
+    Ok(finish.status == 1 && shelf.told() == told.as_bytes() && shelf.stored(b"b.g").is_none())
+}
