@@ -28,3 +28,5 @@ pub mod BringLaws
 pub mod RiseLaws
 pub mod TrapLaws
 pub mod TopLaws
+pub mod KindLaws
+pub mod AloneLaws

@@ -4,6 +4,7 @@ use Rattle.std.proofs.lemmas.Bool.{leb-true, leb-false}
 use Rattle.gimple_ir.specs.declared.value.Constant.{Constant}
 use Rattle.lattice_parts.specs.Sets.{Has, Ascending, Subset, Each, gathered, mapped, kept_members}
 use Rattle.lattice_parts.specs.SetLemmas.{same_or_shorter, is_subset, subset_is, gathered_ascends, gathered_holds, gathered_monotone, gathered_from, mapped_ascends, mapped_holds, mapped_monotone, mapped_from, kept_holds, kept_from, kept_monotone, kept_ascends}
+use Rattle.lattice_parts.proofs.LengthLemmas.{gathered_longer}
 use Rattle.value_domain.specs.declared.vals.Vals.{Vals}
 use Rattle.value_domain.specs.declared.vals.Vals.TheVariants.{Any, Nothing, Among}
 use Rattle.value_domain.specs.Constants.{before}
@@ -25,6 +26,18 @@ cap_cases limit cs P h k = by (leb (length cs) limit) refl
     by : (b : Bool) → leb (length cs) limit ≡ b → P (cond b (Among limit cs) Any)
     by true e = h (leb-true (length cs) limit e)
     by false e = k
+
+-- once there are more than the limit, further results leave any
+pub past_limit : (limit : ℕ) (f : Constant → Constant → Option Constant) (xs ys acc : List Constant) → limit < length acc → vals_of limit (gathered before f xs ys acc) ≡ Any
+past_limit limit f xs ys acc h = more (gathered before f xs ys acc) (let g = gathered_longer before f xs ys acc in omega (arith, g, h))
+  where
+    more : (cs : List Constant) → limit < length cs → vals_of limit cs ≡ Any
+    more [] m = absurd (omega arith)
+    more (c ∷ cs) m = by (leb (length (c ∷ cs)) limit) refl
+      where
+        by : (b : Bool) → leb (length (c ∷ cs)) limit ≡ b → cond b (Among limit (c ∷ cs)) Any ≡ Any
+        by true e = let few = leb-true (length (c ∷ cs)) limit e in absurd (omega (arith, few, m))
+        by false e = refl
 
 pub of_holds : (limit : ℕ) (cs : List Constant) (c : Constant) → Has c cs → IsAmong (Some c) (vals_of limit cs)
 of_holds limit [] c h = h

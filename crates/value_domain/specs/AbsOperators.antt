@@ -18,10 +18,10 @@ use Rattle.value_domain.specs.declared.abs_val.AbsVal.{AbsVal}
 use Rattle.value_domain.specs.Constants.{before}
 use Rattle.value_domain.specs.Bitmasks.{bits_met}
 use Rattle.value_domain.specs.Ranges.{meet_range, sum_range, difference_range, product_range}
-use Rattle.value_domain.specs.BitOperators.{unknown_bits, op_bits, some_truth, cmp_bits, converted_bits, number_of}
+use Rattle.value_domain.specs.BitOperators.{unknown_bits, exact_bits, op_bits, some_truth, cmp_bits, converted_bits, number_of}
 use Rattle.value_domain.specs.RangeOperators.{type_range, rounded, rounded_each, op_range, cmp_range, convert_range, allowed}
 use Rattle.value_domain.specs.ConstantOperators.{is_pointer, constant_in, may_stand_right, op_constant, cmp_constant, convert_constant, pairs_vals, mapped_vals, kept_vals}
-use Rattle.value_domain.specs.Values.{none_val, is_none_val}
+use Rattle.value_domain.specs.Values.{none_val, is_none_val, vals_capped}
 
 -- a value of its parts; where one is empty, the whole is none
 abbrev pub assembled : Vals → Option Bits → Option Range → AbsVal
@@ -43,6 +43,19 @@ span_of scalar = if is_pointer scalar then zero_range else type_range scalar
 
 abbrev pub top_of : Scalar → AbsVal
 top_of scalar = record { vals = Any; bits = unknown_bits; range = span_of scalar }
+
+-- ---- one constant
+abbrev pub bits_alone : Scalar → Constant → Bits
+bits_alone scalar (Int z) = exact_bits scalar z
+bits_alone scalar c = unknown_bits
+
+abbrev pub range_alone : List ℤ → Constant → Range
+range_alone ts (Int z) = rounded ts (record { low = z; high = z })
+range_alone ts c = zero_range
+
+-- what holds a constant of the scalar, and nothing where it is none of it
+unfoldable pub exactly_of : Scalar → ℕ → List ℤ → Constant → AbsVal
+exactly_of scalar most ts c = if constant_in scalar c then record { vals = vals_capped most (c ∷ []); bits = bits_alone scalar c; range = range_alone ts c } else none_val
 
 -- ---- arithmetic
 abbrev pub bits_under : Op → Scalar → Scalar → Bits → Bits → Bits

@@ -9,8 +9,8 @@ use Rattle.gimple_ir.specs.declared.value.Constant.{Constant}
 use Rattle.gimple_core.specs.Run.{arith_of, compares, one_if, converted}
 use Rattle.value_domain.specs.declared.abs_val.AbsVal.{AbsVal}
 use Rattle.value_domain.specs.ConstantOperators.{is_pointer}
-use Rattle.value_domain.specs.AbsOperators.{abs_op_of, abs_cmp_of, abs_convert_of, abs_met, refined_of, known_of, may_trap_of, brought_into, top_of}
-use Rattle.value_domain.specs.Values.{FitsWith, abs_val_below}
+use Rattle.value_domain.specs.AbsOperators.{abs_op_of, abs_cmp_of, abs_convert_of, abs_met, refined_of, known_of, may_trap_of, brought_into, top_of, exactly_of}
+use Rattle.value_domain.specs.Values.{FitsWith, abs_val_below, kind_of, limit_in, thresholds_in}
 use Rattle.value_domain.specs.Thresholds.{IsLawful}
 use Rattle.value_domain.specs.Holding.{Holds, constant_of, value_of_scalar, IsOf, IsAllowed, MayCompare}
 
@@ -124,3 +124,18 @@ TopHolds = (scalar : Scalar) (v : Value) → value_of_scalar scalar v ≡ true �
 
 abbrev pub TopFits : Type 0
 TopFits = (most : ℕ) (ts : List ℤ) → IsLawful ts → (scalar : Scalar) → FitsWith most ts (top_of scalar) × IsOf scalar (top_of scalar)
+
+-- what holds a constant of the scalar holds the value that it stands for
+abbrev pub AloneHolds : Type 0
+AloneHolds = (most : ℕ) (ts : List ℤ) → IsLawful ts → (scalar : Scalar) (v : Value) (c : Constant) → value_of_scalar scalar v ≡ true → constant_of v ≡ Some c
+    → Holds v (exactly_of scalar most ts c)
+
+abbrev pub AloneFits : Type 0
+AloneFits = (most : ℕ) (ts : List ℤ) → IsLawful ts → (scalar : Scalar) (c : Constant) → FitsWith most ts (exactly_of scalar most ts c) × IsOf scalar (exactly_of scalar most ts c)
+
+-- a kind gives back what it was made of
+abbrev pub KindLimit : Type 0
+KindLimit = (most : ℕ) (ts : List ℤ) → limit_in (kind_of most ts) ≡ most
+
+abbrev pub KindThresholds : Type 0
+KindThresholds = (most : ℕ) (ts : List ℤ) → IsLawful ts → thresholds_in (kind_of most ts) ≡ ts

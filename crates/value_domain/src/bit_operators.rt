@@ -36,7 +36,7 @@ pub(crate) fn number(scalar: Scalar, known: Bits) -> Option<i128>
 }
 
 /// All bits of a number of a scalar.
-fn exact(scalar: Scalar, value: i128) -> Bits
+pub(crate) fn exact(scalar: Scalar, value: i128) -> Bits
     ensures { result ≡ exact_bits scalar value }
 {
     Bits {

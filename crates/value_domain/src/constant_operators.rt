@@ -42,7 +42,7 @@ pub(crate) fn pointer(scalar: Scalar) -> bool
 }
 
 /// Whether a constant is a value of a scalar.
-fn of_scalar(scalar: Scalar, constant: Constant) -> bool
+pub(crate) fn of_scalar(scalar: Scalar, constant: Constant) -> bool
     ensures { result ≡ constant_in scalar constant }
 {
     match constant {
@@ -222,22 +222,6 @@ fn gather_row(
     Ok(())
 }
 
-/// The results of all pairs, in order.
-fn gather(
-    alloc: Global,
-    rule: Rule,
-    left: &[Constant],
-    right: &[Constant],
-) -> Result<Vec<Constant>, OutOfMemory>
-    ensures { IfOk result (λ v. v.items ≡ gathered before (rule_constant rule) left.now right.now []) }
-{
-    let mut all = Vec::new(alloc);
-    for at in 0..left.len() {
-        gather_row(rule, left[at], right, &mut all)?;
-    }
-    Ok(all)
-}
-
 /// The set of these constants, where none and too many have their own forms.
 fn set_of(limit: u64, constants: Vec<Constant>) -> Vals
     ensures { result ≡ vals_of limit constants.items }
@@ -247,6 +231,26 @@ fn set_of(limit: u64, constants: Vec<Constant>) -> Vals
     } else {
         capped(limit, constants)
     }
+}
+
+/// The set of the results of all pairs. As soon as there are too many, no more pairs are formed.
+fn gather(
+    alloc: Global,
+    limit: u64,
+    rule: Rule,
+    left: &[Constant],
+    right: &[Constant],
+) -> Result<Vals, OutOfMemory>
+    ensures { IfOk result (λ v. v ≡ vals_of limit (gathered before (rule_constant rule) left.now right.now [])) }
+{
+    let mut all = Vec::new(alloc);
+    for at in 0..left.len() {
+        if all.len() as u64 > limit {
+            return Ok(Vals::Any);
+        }
+        gather_row(rule, left[at], right, &mut all)?;
+    }
+    Ok(set_of(limit, all))
 }
 
 /// The results of all pairs.
@@ -269,10 +273,7 @@ pub(crate) fn pairs(
                 limit: _,
                 constants: others,
             },
-        ) => {
-            let all = gather(alloc, rule, constants.as_slice(), others.as_slice())?;
-            Ok(set_of(limit, all))
-        }
+        ) => gather(alloc, limit, rule, constants.as_slice(), others.as_slice()),
         (_, _) => Ok(Vals::Any),
     }
 }

@@ -1,6 +1,6 @@
 //! What holds of the operators, as laws.
 
-ghost use Rattle.value_domain.specs.Laws.{OpHolds, OpFits, OpRises, CmpHolds, CmpFits, CmpRises, ConvertHolds, ConvertFits, ConvertRises, MeetHolds, MeetFits, MeetRises, RefineHolds, RefineFits, RefineRises, KnownHolds, NoTrap, TopHolds, TopFits, BroughtFits, BroughtRises, BroughtSame};
+ghost use Rattle.value_domain.specs.Laws.{OpHolds, OpFits, OpRises, CmpHolds, CmpFits, CmpRises, ConvertHolds, ConvertFits, ConvertRises, MeetHolds, MeetFits, MeetRises, RefineHolds, RefineFits, RefineRises, KnownHolds, NoTrap, TopHolds, TopFits, AloneHolds, AloneFits, KindLimit, KindThresholds, BroughtFits, BroughtRises, BroughtSame};
 
 use crate::abs_val::AbsVal;
 use crate::thresholds::Thresholds;
@@ -65,6 +65,18 @@ pub fn brought_values()
 pub fn top_holds_all()
     ensures holds { TopHolds }
     ensures fits { TopFits }
+{}
+
+/// What holds a constant of a scalar holds its value, fits and is of the scalar.
+pub fn alone_values()
+    ensures holds { AloneHolds }
+    ensures fits { AloneFits }
+{}
+
+/// A kind gives back the limit and the thresholds that it was made of.
+pub fn kinds_give_back()
+    ensures limit { KindLimit }
+    ensures thresholds { KindThresholds }
 {}
 
 fn crosses<T: Send + Sync>(_value: &T) {}

@@ -12,6 +12,8 @@ mod numbers;
 mod operators;
 mod range;
 mod range_operators;
+#[cfg(test)]
+mod tests;
 mod thresholds;
 mod vals;
 
@@ -20,13 +22,14 @@ pub use bits::Bits;
 pub use constant::{ConstantOrder, NumberOrder};
 pub use gimple_core::Constant;
 pub use laws::{
-    brought_values, closed_traps, known_constants_hold, operators_fit, operators_hold,
-    operators_rise, taken_comparisons_fit, taken_comparisons_hold, taken_comparisons_rise,
-    top_holds_all, values_cross,
+    alone_values, brought_values, closed_traps, kinds_give_back, known_constants_hold,
+    operators_fit, operators_hold, operators_rise, taken_comparisons_fit, taken_comparisons_hold,
+    taken_comparisons_rise, top_holds_all, values_cross,
 };
 pub use limits::thresholds_of;
 pub use operators::{
-    abs_cmp, abs_convert, abs_op, into_scalar, join, known, leq, may_trap, meet, refine, top,
+    abs_cmp, abs_convert, abs_op, exactly, into_scalar, join, known, leq, may_trap, meet, refine,
+    top,
 };
 pub use range::Range;
 pub use thresholds::Thresholds;

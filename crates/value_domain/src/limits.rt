@@ -210,7 +210,7 @@ fn put_negative(ends: &mut Vec<i128>, bit: u32) -> Result<(), OutOfMemory>
 
 /// The thresholds that every program has.
 #[tactic(auto, unfolding(crate::specs::Thresholds::fixed_thresholds))]
-fn fixed(alloc: Global) -> Result<Vec<i128>, OutOfMemory>
+pub(crate) fn fixed(alloc: Global) -> Result<Vec<i128>, OutOfMemory>
     ensures { IfOk result (λ v. v.items ≡ fixed_thresholds) }
 {
     let mut ends = Vec::new(alloc);

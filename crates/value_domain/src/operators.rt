@@ -7,16 +7,16 @@ ghost use Rattle.gimple_core.specs.Operators.{is_signed};
 ghost use Rattle.value_domain.specs.ConstantOperators.{is_pointer};
 ghost use Rattle.value_domain.specs.Ranges.{meet_range};
 ghost use Rattle.value_domain.specs.RangeOperators.{IsInside, IsWords, IsSignedWords, allowed, rounded_each, type_range};
-ghost use Rattle.value_domain.specs.AbsOperators.{assembled, top_of, span_of, zero_range, bits_under, range_under, abs_op_of, bits_compared, range_compared, abs_cmp_of, abs_convert_of, abs_met, refined_of, refined_proper, ordered_left, known_of, range_constant, may_trap_of, range_traps, division_traps, count_traps, lies_outside, has_number, bits_in, range_in, brought_into};
+ghost use Rattle.value_domain.specs.AbsOperators.{assembled, top_of, span_of, zero_range, bits_alone, range_alone, exactly_of, bits_under, range_under, abs_op_of, bits_compared, range_compared, abs_cmp_of, abs_convert_of, abs_met, refined_of, refined_proper, ordered_left, known_of, range_constant, may_trap_of, range_traps, division_traps, count_traps, lies_outside, has_number, bits_in, range_in, brought_into};
 ghost use Rattle.value_domain.specs.Holding.{IsOf, IsAllowed, MayCompare};
 
 use crate::abs_val::AbsVal;
 use crate::bit_operators::{
-    bits_converted, bits_of_cmp, bits_of_op, either_truth, number, unknown,
+    bits_converted, bits_of_cmp, bits_of_op, either_truth, exact, number, unknown,
 };
 use crate::bits::Bits;
 use crate::constant_operators::{
-    Rule, Test, each_converted, met, pairs, pointer, sets_trap, single, tested, without,
+    Rule, Test, each_converted, met, of_scalar, pairs, pointer, sets_trap, single, tested, without,
 };
 use crate::numbers::{minus, numbers_of, plus};
 use crate::range::Range;
@@ -24,7 +24,7 @@ use crate::range_operators::{
     difference, product, range_converted, range_of_cmp, range_of_op, sum,
 };
 use crate::thresholds::Thresholds;
-use crate::vals::Vals;
+use crate::vals::{Vals, capped};
 use fix_engine::Lattice;
 use gimple_core::{Cmp, Constant, Op, OutOfMemory, Scalar, bits, low, signed};
 use std::alloc::Global;
@@ -74,6 +74,49 @@ pub fn top(scalar: Scalar) -> AbsVal
         bits: unknown(),
         range,
     }
+}
+
+fn alone_bits(scalar: Scalar, constant: Constant) -> Bits
+    ensures { result ≡ bits_alone scalar constant }
+{
+    match constant {
+        Constant::Int(value) => exact(scalar, value),
+        _ => unknown(),
+    }
+}
+
+fn alone_range(constant: Constant, limits: &Thresholds) -> Range
+    ensures { result ≡ range_alone limits.now.ends constant }
+{
+    match constant {
+        Constant::Int(value) => limits.round(Range {
+            low: value,
+            high: value,
+        }),
+        _ => zero(),
+    }
+}
+
+/// What holds a constant of a scalar. Where the constant is none of the scalar, it holds nothing.
+#[tactic(auto, unfolding(crate::specs::AbsOperators::exactly_of))]
+pub fn exactly(
+    alloc: Global,
+    scalar: Scalar,
+    constant: Constant,
+    limits: &Thresholds,
+) -> Result<AbsVal, OutOfMemory>
+    ensures { IfOk result (λ v. v ≡ exactly_of scalar limits.now.size limits.now.ends constant) }
+{
+    if !of_scalar(scalar, constant) {
+        return Ok(none());
+    }
+    let mut constants = Vec::new(alloc);
+    constants.push(constant)?;
+    Ok(AbsVal {
+        vals: capped(limits.limit(), constants),
+        bits: alone_bits(scalar, constant),
+        range: alone_range(constant, limits),
+    })
 }
 
 /// The least value above both.
@@ -417,7 +460,7 @@ fn count_leaves(scalar: Scalar, right: Range) -> bool
 }
 
 /// Whether the intervals leave a trap open.
-fn range_leaves(op: Op, scalar: Scalar, left: Range, right: Range) -> bool
+pub(crate) fn range_leaves(op: Op, scalar: Scalar, left: Range, right: Range) -> bool
     requires left { IsWords left }
     requires right { IsWords right }
     requires signed { is_signed scalar ≡ true → op ≡ Op.Mul → (IsSignedWords left) × (IsSignedWords right) }
