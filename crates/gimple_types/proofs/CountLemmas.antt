@@ -1,5 +1,5 @@
 -- Functions of a program whose size is below 2^32.
-use Rattle.std.proofs.Common.{◌≡◌, ℕ, ◌+◌, ◌<◌, ◌^◌, List, [], ◌∷◌, sum_by, arith}
+use Rattle.std.proofs.Common.{◌<◌, ◌^◌, List, [], ◌∷◌, sum_by, arith}
 use Rattle.std.proofs.lemmas.List.Sums.{sum_by-cons}
 use Rattle.gimple_ir.specs.declared.program.Function.{Function}
 use Rattle.gimple_core.specs.Size.{size_of_function}

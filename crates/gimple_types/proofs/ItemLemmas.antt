@@ -1,21 +1,21 @@
 -- The slot of each item.
-use Rattle.std.proofs.Common.{◌≡◌, ℕ, zero, suc, ◌+◌, ◌-◌, ◌*◌, ◌%◌, ◌<◌, ◌≤◌, add-one, List, [], ◌∷◌, ◌++◌, map, length, drop, get_or, slice_index_or, Option, Some, None, Result, Ok, refl, sym, ◌∙◌, ap, arith, ⊎_elim}
+use Rattle.std.proofs.Common.{◌≡◌, ℕ, zero, suc, ◌+◌, ◌-◌, ◌*◌, ◌%◌, ◌<◌, ◌≤◌, add-one, List, [], ◌∷◌, ◌++◌, length, drop, Option, Some, None, Ok, refl, sym, ◌∙◌, ap, arith, ⊎_elim}
 use Rattle.std.specs.List.{slice_get}
 use Rattle.std.specs.Option.{option_map}
-use Rattle.std.proofs.Math.Seq.{drop-cons}
 use Rattle.std.proofs.lemmas.Bool.{cases_lt}
-use Rattle.std.proofs.lemmas.List.{length-map, length-append}
-use Rattle.std.proofs.lemmas.Option.{slice_get_past, slice_get_within, slice_get-map, get_or_from_slice_get}
+use Rattle.std.proofs.lemmas.Option.{slice_get_past}
 use Rattle.gimple_ir.specs.declared.scalar.Scalar.{Scalar}
 use Rattle.gimple_ir.specs.declared.operand.Operand.{Operand}
 use Rattle.gimple_ir.specs.declared.declarations.Global.{Global}
 use Rattle.gimple_ir.specs.declared.value.LayoutSlot.{LayoutSlot}
-use Rattle.gimple_core.specs.Layout.{moved, repeated}
-use Rattle.gimple_core.specs.Verdict.{Verdict, and_then}
+use Rattle.gimple_ir.specs.declared.declarations.Decl.{Decl}
+use Rattle.gimple_core.specs.declared.layout.KnownLayout.{KnownLayout}
+use Rattle.gimple_core.specs.Layout.{moved, repeated, decl_layout}
+use Rattle.gimple_core.specs.Verdict.{and_then}
 use Rattle.gimple_core.specs.Env.{Names}
 use Rattle.gimple_core.specs.Declarations.{item, items}
-use Rattle.gimple_types.specs.Sizes.{scalar_at, slot_item, items_from}
-use Rattle.gimple_types.proofs.SizeLemmas.{repeated_length, in_element}
+use Rattle.gimple_types.specs.Sizes.{scalar_at, slot_item, items_from, field_start, field_end, slots_after}
+use Rattle.gimple_types.proofs.SizeLemmas.{moved_length, repeated_length, in_element}
 
 module _ {T : Type 0} where
   get_left : (a b : List T) (i : ℕ) → i < length a → slice_get (a ++ b) i ≡ slice_get a i
@@ -102,8 +102,18 @@ items_are all slots i (x ∷ xs) = one_more all slots i x xs (scalar_at slots i)
 pub all_items_are : (all : Names Global) (slots : List LayoutSlot) (xs : List Operand) → items all slots xs ≡ items_from all slots 0 xs
 all_items_are all slots xs = items_are all slots 0 xs
 
--- a slot that is read by its number
-pub in_slots : (slots : List LayoutSlot) (i : ℕ) (d : LayoutSlot) → i < length slots → Some (slice_index_or slots i d).scalar ≡ scalar_at slots i
-in_slots [] i d l = let z : ⊥ = omega (arith, l) in absurd z
-in_slots (s ∷ slots) zero d l = refl
-in_slots (s ∷ slots) (suc i) d l = let k : i < length slots = omega (arith, l) in in_slots slots i d k
+-- a slot of a field
+pub field_scalar : (known : List KnownLayout) (f : Decl) (fs : List Decl) (size i : ℕ) → i < length (decl_layout known f).slots → scalar_at (slots_after known size (f ∷ fs)) i ≡ scalar_at (decl_layout known f).slots i
+field_scalar known f fs size i l =
+    let e = moved_length (field_start known size f) (decl_layout known f).slots in
+    let k : i < length (moved (field_start known size f) (decl_layout known f).slots) = omega (arith, l, e) in
+    ap (option_map (λ s. s.scalar)) (get_left (moved (field_start known size f) (decl_layout known f).slots) (slots_after known (field_end known size f) fs) i k)
+    ∙ moved_scalar (field_start known size f) i (decl_layout known f).slots
+
+-- a slot of a later field
+pub later_scalar : (known : List KnownLayout) (f : Decl) (fs : List Decl) (size i : ℕ) → length (decl_layout known f).slots ≤ i → scalar_at (slots_after known size (f ∷ fs)) i ≡ scalar_at (slots_after known (field_end known size f) fs) (i - length (decl_layout known f).slots)
+later_scalar known f fs size i l =
+    let e = moved_length (field_start known size f) (decl_layout known f).slots in
+    let k : length (moved (field_start known size f) (decl_layout known f).slots) ≤ i = omega (arith, l, e) in
+    ap (option_map (λ s. s.scalar)) (get_right (moved (field_start known size f) (decl_layout known f).slots) (slots_after known (field_end known size f) fs) i k)
+    ∙ ap (λ n. scalar_at (slots_after known (field_end known size f) fs) (i - n)) e

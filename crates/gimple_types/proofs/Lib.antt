@@ -5,3 +5,6 @@ pub mod StructLemmas
 pub mod CountLemmas
 pub mod NameLemmas
 pub mod ProgramLemmas
+pub mod KeptLemmas
+pub mod SolidLemmas
+pub mod FieldLemmas

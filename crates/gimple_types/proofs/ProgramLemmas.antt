@@ -1,5 +1,5 @@
 -- The first fault of a program, from the checks of its parts.
-use Rattle.std.proofs.Common.{◌≡◌, List, [], Option, Some, None, Result, Ok, Err, refl, IfErr, OnOk}
+use Rattle.std.proofs.Common.{◌≡◌, [], None, Result, Ok, Err, refl, IfErr, OnOk}
 use Rattle.gimple_ir.specs.declared.declarations.Global.{Global}
 use Rattle.gimple_ir.specs.declared.program.Function.{Function}
 use Rattle.gimple_ir.specs.declared.program.Program.{Program}

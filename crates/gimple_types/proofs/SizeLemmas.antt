@@ -1,14 +1,11 @@
 -- Slots of elements in a row.
-use Rattle.std.proofs.Common.{◌≡◌, ℕ, zero, suc, ◌+◌, ◌-◌, ◌*◌, ◌/◌, ◌%◌, ◌<◌, ◌≤◌, ◌==◌, Bool, true, false, ◌&&◌, ◌||◌, if◌then◌else◌, List, [], ◌∷◌, ◌++◌, map, length, refl, sym, ◌∙◌, ap, arith, ℤ, pos, negsuc, ⊎_elim}
-use Rattle.std.specs.List.{All, list_any}
-use Rattle.std.proofs.Math.Nat.{div-add-mod, mod-lt}
+use Rattle.std.proofs.Common.{◌≡◌, ℕ, zero, suc, ◌+◌, ◌-◌, ◌*◌, ◌%◌, ◌<◌, ◌≤◌, ◌==◌, Bool, true, false, ◌&&◌, ◌||◌, List, [], ◌∷◌, length, refl, sym, ◌∙◌, ap, arith, pos, negsuc, ⊎_elim}
+use Rattle.std.specs.List.{All}
 use Rattle.std.proofs.lemmas.Nat.{mod-mul-add}
-use Rattle.std.proofs.lemmas.List.{length-map, length-append}
-use Rattle.gimple_ir.specs.declared.declarations.Shape.{Shape}
-use Rattle.gimple_ir.specs.declared.declarations.StructDef.{StructDef}
-use Rattle.std.proofs.lemmas.List.Elements.{All-nil, All-cons, All-head, All-tail}
-use Rattle.std.proofs.lemmas.List.Folds.{list_any-append, list_any_none}
-use Rattle.std.proofs.lemmas.Bool.{eqb-true, eq-eqb, cases_lt}
+use Rattle.std.proofs.lemmas.List.{length-append}
+use Rattle.std.proofs.lemmas.List.Elements.{All-head, All-tail}
+use Rattle.std.proofs.lemmas.List.Folds.{list_any-append}
+use Rattle.std.proofs.lemmas.Bool.{eqb-true, cases_lt}
 use Rattle.gimple_ir.specs.declared.scalar.Scalar.{Scalar}
 use Rattle.gimple_ir.specs.declared.value.LayoutSlot.{LayoutSlot}
 use Rattle.gimple_core.specs.Memory.{same_scalar}
@@ -77,7 +74,7 @@ has_within (suc n) size o slots scalar w l =
     ∙ ap (λ b. b || has_slot (moved (n * size) slots) (pos o) scalar) (has_behind n size o slots scalar w h) ∙ sym seam)
     (cases_lt o (n * size))
 
-moved_length : (by : ℕ) (slots : List LayoutSlot) → length (moved by slots) ≡ length slots
+pub moved_length : (by : ℕ) (slots : List LayoutSlot) → length (moved by slots) ≡ length slots
 moved_length by [] = refl
 moved_length by (s ∷ slots) = ap suc (moved_length by slots)
 

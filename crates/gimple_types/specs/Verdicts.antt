@@ -1,10 +1,9 @@
 -- What the answers of checks that may want memory say of a verdict.
-use Rattle.std.specs.Prelude.{◌≡◌, ℕ, Result, Ok, Err, Some}
+use Rattle.std.specs.Prelude.{◌≡◌, Result, Ok, Err, Some}
 use Rattle.gimple_ir.specs.declared.program.Program.{Program}
 use Rattle.gimple_ir.specs.declared.fault.Site.{Site}
 use Rattle.gimple_core.specs.Verdict.{Verdict, Judgement}
 use Rattle.gimple_core.specs.Accepted.{first_fault}
-use Rattle.gimple_core.specs.Sealed.{Sealed}
 use Rattle.gimple_types.specs.declared.refusal.Fail.{Fail}
 use Rattle.gimple_types.specs.declared.refusal.Fail.TheVariants as fail
 use Rattle.gimple_types.specs.declared.refusal.Refusal.{Refusal}

@@ -93,7 +93,7 @@ fn item<'a>(all: &Everywhere<'a>, scalar: Scalar, x: &'a Operand) -> Result<(), 
 fn slot_item<'a>(
     structs: &Structs<'a>,
     all: &Everywhere<'a>,
-    decl: &Decl,
+    decl: &'a Decl,
     number: usize,
     x: &'a Operand,
 ) -> Result<(), u8>
@@ -110,7 +110,7 @@ fn slot_item<'a>(
 fn items<'a>(
     structs: &Structs<'a>,
     all: &Everywhere<'a>,
-    decl: &Decl,
+    decl: &'a Decl,
     xs: &'a [Operand],
 ) -> Result<(), u8>
     ensures { result ≡ items_from all.now (layout_of structs.now decl.now).slots 0 xs.now }

@@ -1,44 +1,67 @@
-//! Structs, and how their variables lie in memory.
+//! Structs, and how their variables lie in memory. Slots are not listed: a place in a variable is followed from field to field.
 
-ghost use Rattle.std.specs.Prelude.{◌≡◌, ◌+◌, ◌*◌, ◌<◌, ◌≤◌, ◌^◌, [], ◌∷◌, ◌++◌, map, length, nat_le, pos, find, IfOk, IfSome};
-ghost use Rattle.std.specs.List.{All, list_any};
-ghost use Rattle.std.specs.Option.{option_copied, option_map};
-ghost use Rattle.gimple_core.specs.Names.{same_name};
-ghost use Rattle.gimple_core.specs.Layout.{empty_layout, with_fields, decl_layout, shape_layout, struct_layouts, layout_of, count_of, repeated, round_up, IsLayout};
+ghost use Rattle.std.specs.Prelude.{◌≡◌, false, ◌+◌, ◌*◌, ◌<◌, ◌≤◌, ◌^◌, [], ◌∷◌, ◌++◌, length, nat_le, pos, OnOk, IfOk};
+ghost use Rattle.std.specs.Option.{option_copied};
+ghost use Rattle.gimple_core.specs.Layout.{empty_layout, with_fields, decl_layout, shape_layout, struct_layouts, layout_of, count_of, round_up};
 ghost use Rattle.gimple_core.specs.Env.{has, structs_by_name};
-ghost use Rattle.gimple_core.specs.Statements.{has_slot, is_slot_at};
+ghost use Rattle.gimple_core.specs.Statements.{has_slot};
 ghost use Rattle.gimple_core.specs.Declarations as spec;
 ghost use Rattle.gimple_types.specs.Counts.{AreNarrow};
-ghost use Rattle.gimple_types.specs.Sizes.{scalar_at, AreAmong, AreSmall};
+ghost use Rattle.gimple_types.specs.Sizes.{extent_of, extent_with, first_layouts, slots_after, scalar_at, AreAmong, AreSmall, IsFirst, LeadsTo, NumberLeadsTo};
 ghost use Rattle.gimple_types.specs.Verdicts.{Becomes, Judges};
 
 use crate::names::Table;
 use crate::refusal::{Fail, Refusal, at_site, demand};
 use crate::scalars::same_scalar;
-use gimple_core::{
-    Decl, KnownLayout, LayoutSlot, Scalar, Shape, Site, StructDef, Text, bits, named_layout,
-    push_layout,
-};
+use gimple_core::{Decl, OutOfMemory, Scalar, Shape, Site, StructDef, Text, bits};
+use indexmap::IndexMap;
 use std::alloc::Global as Heap;
 use std::marker::Model;
 
-/// Structs that passed their checks, in file order, with their layouts.
+/// The size and the alignment of a value in bytes, and how many slots it has.
+#[derive(Clone, Copy, Debug)]
+pub(crate) struct Extent {
+    pub(crate) size: u64,
+    pub(crate) align: u64,
+    pub(crate) slots: u64,
+}
+
+/// A struct that passed its checks.
+#[derive(Drop)]
+pub(crate) struct Kept<'a> {
+    pub(crate) definition: &'a StructDef,
+    /// How many structs stand before it.
+    pub(crate) number: usize,
+    pub(crate) extent: Extent,
+}
+
+/// What stands at a place in a variable: a slot, nothing, or a place in a field of a struct of a number.
+pub(crate) enum Inside<'a> {
+    Slot(Scalar),
+    Nothing,
+    Field {
+        number: usize,
+        field: &'a Decl,
+        rest: u64,
+    },
+}
+
+/// Structs that passed their checks, in file order.
 #[derive(Drop)]
 pub(crate) struct Structs<'a> {
-    definitions: Table<'a, StructDef>,
-    known: Vec<KnownLayout>,
+    map: IndexMap<&'a [u8], Kept<'a>>,
 }
 
 impl<'a> Model for Structs<'a> {
-    ghost use Rattle.std.specs.Prelude.{List, map};
+    ghost use Rattle.std.specs.Prelude.{List, []};
     ghost use Rattle.gimple_ir.specs.declared.declarations.StructDef.{StructDef};
-    ghost use Rattle.gimple_types.specs.Sizes.{IsKept};
+    ghost use Rattle.gimple_types.specs.Sizes.{definitions, AreKept};
 
     ghost Value = { List StructDef };
 
-    ghost view = { λ t. map (λ e. e.1) t.definitions };
+    ghost view = { λ t. definitions t.map.entries };
 
-    ghost invariant = { λ t. IsKept t.definitions t.known.items };
+    ghost invariant = { λ t. AreKept [] t.map.entries };
 }
 
 impl<'a> Structs<'a> {
@@ -47,8 +70,7 @@ impl<'a> Structs<'a> {
         ensures { result ≡ [] }
     {
         Structs {
-            definitions: Table::new(alloc),
-            known: Vec::new(alloc),
+            map: IndexMap::new(alloc),
         }
     }
 
@@ -56,99 +78,242 @@ impl<'a> Structs<'a> {
     pub(crate) fn has(&self, name: &'a [u8]) -> bool
         ensures { result ≡ has name.now (structs_by_name self.now) }
     {
-        self.definitions.has(name)
+        self.map.contains_key(&name)
     }
 
-    /// The layout of the struct of this name.
-    #[tactic(auto, using(crate::proofs::StructLemmas::lawful_found))]
-    fn layout(&self, name: &Text) -> Option<&KnownLayout>
-        ensures same { option_copied result ≡ find (λ k. same_name k.name name.now) (struct_layouts [] self.now) }
-        ensures lawful { IfSome result (λ k. IsLayout k.now.layout) }
+    /// The struct of this name, where it is one of the first.
+    fn found(&self, bound: usize, name: &'a Text) -> Option<&Kept<'a>>
+        ensures { IsFirst self.now bound name.now (option_copied result) }
     {
-        named_layout(self.known.as_slice(), name)
+        match self.map.get(&name.as_slice()) {
+            Some(kept) => {
+                if kept.number < bound {
+                    return Some(kept);
+                }
+                None
+            }
+            None => None,
+        }
     }
 
-    /// The size of one element of a variable of this shape.
-    fn size(&self, shape: &Shape) -> u64
-        ensures { result ≡ (shape_layout (struct_layouts [] self.now) shape.now).size }
+    /// The extent of an element of this shape, where only the first structs are there.
+    fn element(&self, bound: usize, shape: &'a Shape) -> Extent
+        ensures { result ≡ extent_of (shape_layout (first_layouts bound self.now) shape.now) }
     {
         match shape {
-            Shape::Plain(scalar) => u64::from(bits(*scalar) / 8),
-            Shape::Named(name) => match self.layout(name) {
-                Some(known) => known.layout.size,
-                None => 0,
+            Shape::Plain(scalar) => {
+                let width = u64::from(bits(*scalar) / 8);
+                Extent {
+                    size: width,
+                    align: width,
+                    slots: 1,
+                }
+            }
+            Shape::Named(name) => match self.found(bound, name) {
+                Some(kept) => kept.extent,
+                None => Extent {
+                    size: 0,
+                    align: 1,
+                    slots: 0,
+                },
             },
         }
     }
 
-    /// The alignment of a variable of this shape.
-    fn align(&self, shape: &Shape) -> u64
-        ensures same { result ≡ (shape_layout (struct_layouts [] self.now) shape.now).align }
-        ensures least { 1 ≤ result }
-        ensures most { result ≤ 8 }
+    /// The same, with the bounds that each extent keeps.
+    fn extent_before(&self, bound: usize, shape: &'a Shape) -> Extent
+        ensures same { result ≡ extent_of (shape_layout (first_layouts bound self.now) shape.now) }
+        ensures least { 1 ≤ result.align }
+        ensures most { result.align ≤ 8 }
+        ensures dense { result.slots ≤ result.size }
+        ensures small { result.size ≤ 16777216 }
     {
-        match shape {
-            Shape::Plain(scalar) => u64::from(bits(*scalar) / 8),
-            Shape::Named(name) => match self.layout(name) {
-                Some(known) => known.layout.align,
-                None => 1,
-            },
-        }
+        let _ = &self.map;
+        self.element(bound, shape)
+    }
+
+    /// The extent of an element of this shape.
+    fn extent(&self, shape: &'a Shape) -> Extent
+        ensures same { result ≡ extent_of (shape_layout (struct_layouts [] self.now) shape.now) }
+        ensures least { 1 ≤ result.align }
+        ensures most { result.align ≤ 8 }
+        ensures dense { result.slots ≤ result.size }
+        ensures small { result.size ≤ 16777216 }
+    {
+        self.extent_before(self.map.len(), shape)
     }
 
     /// A variable's length is not 0, and its size at most 2^24.
     #[tactic(auto, unfolding(gimple_core::specs::Declarations::sized, gimple_core::specs::Layout::layout_of))]
-    pub(crate) fn sized(&self, decl: &Decl) -> Result<(), u8>
+    pub(crate) fn sized(&self, decl: &'a Decl) -> Result<(), u8>
         ensures { result ≡ spec.sized self.now decl.now }
     {
         let count = count_of(decl.length);
         demand(count != 0, 12)?;
-        let size = u128::from(count) * u128::from(self.size(&decl.shape));
+        let size = u128::from(count) * u128::from(self.extent(&decl.shape).size);
         demand(size <= 16777216, 12)
     }
 
+    /// Whether a variable has so many slots.
+    #[tactic(auto, unfolding(gimple_core::specs::Layout::layout_of), using(crate::proofs::SizeLemmas::repeated_length))]
+    pub(crate) fn has_slots(&self, decl: &'a Decl, least: usize) -> bool
+        ensures { result ≡ nat_le least (length (layout_of self.now decl.now).slots) }
+    {
+        let slots = u128::from(count_of(decl.length)) * u128::from(self.extent(&decl.shape).slots);
+        least as u128 <= slots
+    }
+
     /// Whether a variable has a slot of this offset and scalar.
-    #[tactic(auto, unfolding(gimple_core::specs::Layout::layout_of))]
-    pub(crate) fn has_slot(&self, decl: &Decl, offset: i128, scalar: Scalar) -> bool
+    #[tactic(auto, using(crate::proofs::SizeLemmas::has_negative))]
+    pub(crate) fn has_slot(&self, decl: &'a Decl, offset: i128, scalar: Scalar) -> bool
         ensures { result ≡ has_slot (layout_of self.now decl.now).slots offset scalar }
     {
-        let count = count_of(decl.length);
-        match &decl.shape {
-            Shape::Plain(own) => {
-                let one = [LayoutSlot {
-                    offset: 0,
-                    scalar: *own,
-                }];
-                has_repeated(count, u64::from(bits(*own) / 8), &one, offset, scalar)
-            }
-            Shape::Named(name) => match self.layout(name) {
-                Some(known) => {
-                    let one = &known.layout;
-                    has_repeated(count, one.size, one.slots.as_slice(), offset, scalar)
+        if offset < 0 {
+            return false;
+        }
+        self.has_slot_at(decl, offset as u128, scalar)
+    }
+
+    /// The same of an offset that is not negative.
+    fn has_slot_at(&self, decl: &'a Decl, offset: u128, scalar: Scalar) -> bool
+        ensures { result ≡ has_slot (layout_of self.now decl.now).slots (pos offset) scalar }
+    {
+        let mut bound = self.map.len();
+        let mut decl = decl;
+        let mut offset = offset;
+        loop {
+            match self.inside(bound, decl, offset) {
+                Inside::Slot(own) => return same_scalar(own, scalar),
+                Inside::Nothing => return false,
+                Inside::Field {
+                    number,
+                    field,
+                    rest,
+                } => {
+                    bound = number;
+                    decl = field;
+                    offset = u128::from(rest);
                 }
-                None => has_repeated(count, 0, &[], offset, scalar),
+            }
+        }
+    }
+
+    /// What stands at an offset in a variable behind the first structs.
+    fn inside(&self, bound: usize, decl: &'a Decl, offset: u128) -> Inside<'a>
+        ensures { LeadsTo self.now (decl_layout (first_layouts bound self.now) decl.now).slots offset bound result }
+    {
+        let _ = &self.map;
+        let size = self.extent_before(bound, &decl.shape).size;
+        if offset >= end_of(0, count_of(decl.length), size) {
+            return Inside::Nothing;
+        }
+        let within = (offset % u128::from(size)) as u64;
+        match &decl.shape {
+            Shape::Plain(scalar) => {
+                if within == 0 {
+                    return Inside::Slot(*scalar);
+                }
+                Inside::Nothing
+            }
+            Shape::Named(name) => match self.found(bound, name) {
+                Some(kept) => self.field_at(kept.number, kept.definition.fields.as_slice(), within),
+                None => Inside::Nothing,
             },
         }
     }
 
-    /// How many slots a variable has, but at most one more than `most`.
-    #[tactic(auto, unfolding(gimple_core::specs::Layout::layout_of), using(crate::proofs::SizeLemmas::repeated_length))]
-    pub(crate) fn has_slots(&self, decl: &Decl, least: usize) -> bool
-        ensures { result ≡ nat_le least (length (layout_of self.now decl.now).slots) }
+    /// The field of the struct of a number that lies at an offset.
+    fn field_at(&self, number: usize, fields: &'a [Decl], offset: u64) -> Inside<'a>
+        requires { offset < 2 ^ 63 }
+        ensures { LeadsTo self.now (slots_after (first_layouts number self.now) 0 fields.now) offset (number + 1) result }
     {
-        let count = count_of(decl.length);
-        let one = match &decl.shape {
-            Shape::Plain(_) => 1,
-            Shape::Named(name) => match self.layout(name) {
-                Some(known) => known.layout.slots.len(),
-                None => 0,
+        let _ = &self.map;
+        let mut size = 0;
+        for field in fields {
+            let one = self.extent_before(number, &field.shape);
+            let start = next_multiple(size, one.align);
+            if offset < start {
+                return Inside::Nothing;
+            }
+            let end = end_of(start, count_of(field.length), one.size);
+            if u128::from(offset) < end {
+                return Inside::Field {
+                    number,
+                    field,
+                    rest: offset - start,
+                };
+            }
+            size = end as u64;
+        }
+        Inside::Nothing
+    }
+
+    /// The scalar of a variable's slot of this number, counted from 0; None exactly past the last slot.
+    pub(crate) fn slot_scalar(&self, decl: &'a Decl, index: usize) -> Option<Scalar>
+        ensures { result ≡ scalar_at (layout_of self.now decl.now).slots index }
+    {
+        let mut bound = self.map.len();
+        let mut decl = decl;
+        let mut index = index as u64;
+        loop {
+            match self.numbered(bound, decl, index) {
+                Inside::Slot(own) => return Some(own),
+                Inside::Nothing => return None,
+                Inside::Field {
+                    number,
+                    field,
+                    rest,
+                } => {
+                    bound = number;
+                    decl = field;
+                    index = rest;
+                }
+            }
+        }
+    }
+
+    /// Where the slot of a number lies in a variable behind the first structs.
+    fn numbered(&self, bound: usize, decl: &'a Decl, index: u64) -> Inside<'a>
+        ensures { NumberLeadsTo self.now (decl_layout (first_layouts bound self.now) decl.now).slots index bound result }
+    {
+        let slots = self.extent_before(bound, &decl.shape).slots;
+        if u128::from(index) >= end_of(0, count_of(decl.length), slots) {
+            return Inside::Nothing;
+        }
+        let within = index % slots;
+        match &decl.shape {
+            Shape::Plain(scalar) => Inside::Slot(*scalar),
+            Shape::Named(name) => match self.found(bound, name) {
+                Some(kept) => {
+                    let fields = kept.definition.fields.as_slice();
+                    self.field_numbered(kept.number, fields, within)
+                }
+                None => Inside::Nothing,
             },
-        };
-        least as u128 <= u128::from(count) * one as u128
+        }
+    }
+
+    /// The field of the struct of a number in which the slot of a number lies.
+    fn field_numbered(&self, number: usize, fields: &'a [Decl], index: u64) -> Inside<'a>
+        ensures { NumberLeadsTo self.now (slots_after (first_layouts number self.now) 0 fields.now) index (number + 1) result }
+    {
+        let mut index = index;
+        for field in fields {
+            let one = self.extent_before(number, &field.shape);
+            let slots = end_of(0, count_of(field.length), one.slots);
+            if u128::from(index) < slots {
+                return Inside::Field {
+                    number,
+                    field,
+                    rest: index,
+                };
+            }
+            index -= slots as u64;
+        }
+        Inside::Nothing
     }
 
     /// The struct that a field names is an earlier one.
-    #[tactic(auto)]
     fn earlier_shape(&self, all: &'a [StructDef], shape: &'a Shape) -> Result<(), u8>
         requires { AreAmong self.now all.now }
         ensures { result ≡ spec.earlier_shape (structs_by_name all.now) (structs_by_name self.now) shape.now }
@@ -182,83 +347,87 @@ impl<'a> Structs<'a> {
         Ok(())
     }
 
-    /// The scalar of a variable's slot of this number, counted from 0; None exactly past the last slot.
-    #[tactic(auto, unfolding(gimple_core::specs::Layout::layout_of), using(crate::proofs::ItemLemmas::repeated_scalar, crate::proofs::ItemLemmas::no_repeated_scalar))]
-    pub(crate) fn slot_scalar(&self, decl: &Decl, index: usize) -> Option<Scalar>
-        ensures { result ≡ scalar_at (layout_of self.now decl.now).slots index }
+    /// An extent with one more field.
+    fn with_field(&self, whole: Extent, field: &'a Decl) -> Extent
+        requires size { whole.size < 2 ^ 62 }
+        requires dense { whole.slots ≤ whole.size }
+        requires small { (decl_layout (struct_layouts [] self.now) field.now).size ≤ 16777216 }
+        ensures same { result ≡ extent_with (struct_layouts [] self.now) whole field.now }
+        ensures near { result.size ≤ whole.size + 16777224 }
+        ensures dense { result.slots ≤ result.size }
+        ensures least { whole.align ≤ result.align }
+        ensures most { whole.align ≤ 8 → result.align ≤ 8 }
     {
-        let count = count_of(decl.length);
-        match &decl.shape {
-            Shape::Plain(own) => {
-                let one = [LayoutSlot {
-                    offset: 0,
-                    scalar: *own,
-                }];
-                scalar_in(count, u64::from(bits(*own) / 8), &one, index)
-            }
-            Shape::Named(name) => match self.layout(name) {
-                Some(known) => scalar_in(
-                    count,
-                    known.layout.size,
-                    known.layout.slots.as_slice(),
-                    index,
-                ),
-                None => None,
-            },
+        let one = self.extent(&field.shape);
+        let count = count_of(field.length);
+        Extent {
+            size: next_multiple(whole.size, one.align) + count * one.size,
+            align: whole.align.max(one.align),
+            slots: whole.slots + count * one.slots,
         }
     }
 
-    /// The size of a variable.
-    fn extent(&self, decl: &Decl) -> u64
-        requires { (decl_layout (struct_layouts [] self.now) decl.now).size ≤ 16777216 }
-        ensures { result ≡ (decl_layout (struct_layouts [] self.now) decl.now).size }
-    {
-        count_of(decl.length) * self.size(&decl.shape)
-    }
-
-    /// The size of a struct of these fields behind these structs.
-    fn room(&self, fields: &[Decl]) -> u64
+    /// The extent of a struct of these fields behind these structs.
+    fn of_fields(&self, fields: &'a [Decl]) -> Extent
         requires few { length fields.now < 2 ^ 32 }
         requires small { AreSmall (struct_layouts [] self.now) fields.now }
-        ensures { result ≡ spec.struct_size self.now fields.now }
+        ensures { result ≡ extent_of (with_fields (struct_layouts [] self.now) empty_layout fields.now) }
     {
-        let mut size = 0;
-        let mut align = 1;
+        let mut whole = Extent {
+            size: 0,
+            align: 1,
+            slots: 0,
+        };
         let mut rest = fields;
         while let [next, after @ ..] = rest {
-            let own = self.align(&next.shape);
-            size = next_multiple(size, own) + self.extent(next);
-            align = align.max(own);
+            whole = self.with_field(whole, next);
             rest = after;
         }
-        next_multiple(size, align)
+        Extent {
+            size: next_multiple(whole.size, whole.align),
+            align: whole.align,
+            slots: whole.slots,
+        }
     }
 
-    /// One more struct, after its checks.
+    /// Adds a struct, after its checks.
     #[tactic(auto, unfolding(gimple_core::specs::Declarations::one_struct), using(crate::proofs::StructLemmas::fields_small))]
-    fn with(
-        self,
+    fn add(
+        &mut self,
         alloc: Heap,
         all: &'a [StructDef],
         definition: &'a StructDef,
-    ) -> Result<Structs<'a>, Fail>
-        requires among { AreAmong self all.now }
+    ) -> Result<(), Fail>
+        requires among { AreAmong self.old all.now }
         requires few { length definition.now.fields < 2 ^ 32 }
-        ensures verdict { Becomes (spec.one_struct all.now self.entry definition.now) result tt }
-        ensures more { IfOk result (λ s. s ≡ self.entry ++ definition.now ∷ []) }
+        ensures verdict { Becomes (spec.one_struct all.now self.old definition.now) result tt }
+        ensures more { OnOk result (self.new ≡ self.old ++ definition.now ∷ []) }
     {
         let name = definition.name.as_slice();
         demand(!self.has(name), 2)?;
-        self.fields(alloc, all, definition.fields.as_slice())?;
+        let fields = definition.fields.as_slice();
+        self.fields(alloc, all, fields)?;
         demand(!definition.fields.is_empty(), 12)?;
-        demand(self.room(definition.fields.as_slice()) <= 16777216, 12)?;
-        let Structs {
-            mut definitions,
-            mut known,
-        } = self;
-        push_layout(alloc, &mut known, definition)?;
-        definitions.note(name, definition)?;
-        Ok(Structs { definitions, known })
+        let extent = self.of_fields(fields);
+        demand(extent.size <= 16777216, 12)?;
+        self.keep(definition, extent)?;
+        Ok(())
+    }
+
+    /// Keeps a struct of a new name, with its extent.
+    fn keep(&mut self, definition: &'a StructDef, extent: Extent) -> Result<(), OutOfMemory>
+        requires new { has definition.now.name (structs_by_name self.old) ≡ false }
+        requires same { extent ≡ extent_of (with_fields (struct_layouts [] self.old) empty_layout definition.now.fields) }
+        requires small { extent.size ≤ 16777216 }
+        ensures { OnOk result (self.new ≡ self.old ++ definition.now ∷ []) }
+    {
+        let kept = Kept {
+            definition,
+            number: self.map.len(),
+            extent,
+        };
+        self.map.insert(definition.name.as_slice(), kept)?;
+        Ok(())
     }
 }
 
@@ -276,30 +445,6 @@ fn stands(all: &[StructDef], name: &Text) -> bool
     false
 }
 
-/// Whether some elements in a row have a slot of this offset and scalar.
-#[tactic(auto, using(crate::proofs::SizeLemmas::has_negative, crate::proofs::SizeLemmas::has_behind, crate::proofs::SizeLemmas::has_within))]
-fn has_repeated(count: u64, size: u64, slots: &[LayoutSlot], offset: i128, scalar: Scalar) -> bool
-    requires { All (λ s. s.offset < size) slots.now }
-    ensures { result ≡ has_slot (repeated count size slots.now) offset scalar }
-{
-    if offset < 0 || size == 0 {
-        return false;
-    }
-    let at = offset as u128;
-    if at >= u128::from(count) * u128::from(size) {
-        return false;
-    }
-    let within = (at % u128::from(size)) as u64;
-    has_here(slots, within, scalar)
-}
-
-/// Whether a slot of this offset and scalar is among the slots.
-fn has_here(slots: &[LayoutSlot], offset: u64, scalar: Scalar) -> bool
-    ensures { result ≡ has_slot slots.now (pos offset) scalar }
-{
-    slots.iter().any(|slot| slot.offset == offset && same_scalar(slot.scalar, scalar))
-}
-
 /// The length of an array, and 1 for what is none.
 fn count_of(length: Option<u64>) -> u64
     ensures { result ≡ count_of length }
@@ -308,6 +453,13 @@ fn count_of(length: Option<u64>) -> u64
         Some(count) => count,
         None => 1,
     }
+}
+
+/// Where some items of a size end.
+fn end_of(start: u64, count: u64, size: u64) -> u128
+    ensures { result ≡ start + count * size }
+{
+    u128::from(start) + u128::from(count) * u128::from(size)
 }
 
 /// The least multiple of an alignment that is not below a number.
@@ -319,17 +471,6 @@ fn next_multiple(n: u64, align: u64) -> u64
     ensures near { result < n + 8 }
 {
     (n + (align - 1)) / align * align
-}
-
-/// The scalar of a slot of some elements in a row.
-#[tactic(auto, using(crate::proofs::ItemLemmas::repeated_scalar, crate::proofs::ItemLemmas::no_repeated_scalar))]
-fn scalar_in(count: u64, size: u64, slots: &[LayoutSlot], index: usize) -> Option<Scalar>
-    ensures { result ≡ scalar_at (repeated count size slots.now) index }
-{
-    if index as u128 >= u128::from(count) * slots.len() as u128 {
-        return None;
-    }
-    Some(slots[index % slots.len()].scalar)
 }
 
 /// The checks of each struct in order, and the structs.
@@ -344,10 +485,10 @@ pub(crate) fn all_structs<'a>(alloc: Heap, items: &'a [StructDef]) -> Result<Str
     let mut number = 0;
     let mut rest = items;
     while let [next, after @ ..] = rest {
-        earlier = match earlier.with(alloc, items, next) {
-            Ok(more) => more,
+        match earlier.add(alloc, items, next) {
+            Ok(()) => {}
             Err(fail) => return Err(at_site(Site::Struct(number), fail)),
-        };
+        }
         number += 1;
         rest = after;
     }

@@ -1,7 +1,5 @@
-use Rattle.std.proofs.Common.{◌≡◌, ◌+◌, ◌<◌, ◌^◌, [], length}
-use Rattle.gimple_core.specs.Accepted.{known_env}
+use Rattle.std.proofs.Common.{◌≡◌, length}
 use Rattle.gimple_core.specs.Declarations as spec
-use Rattle.gimple_types.specs.Counts.{AreShort}
 use Rattle.gimple_types.specs.Seen.{seen}
 use Rattle.gimple_types.proofs.declare.locals.Given as goal
 

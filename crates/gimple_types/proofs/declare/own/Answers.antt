@@ -1,10 +1,9 @@
-use Rattle.std.proofs.Common.{rules, ◌≡◌, [], ◌∷◌, ◌++◌, ℕ, Bool, true, false, not, List, Result, Ok, Err, arith, refl, sym, ap, ◌∙◌, subst}
+use Rattle.std.proofs.Common.{rules, ◌≡◌, [], not, Ok, refl, sym, ap, ◌∙◌, subst}
 use Rattle.gimple_core.specs.Accepted.{known_env}
 use Rattle.gimple_core.specs.Declarations as spec
-use Rattle.gimple_core.specs.Env.{has, declared, structs_by_name}
-use Rattle.gimple_core.specs.Verdict.{and_then, demand}
+use Rattle.gimple_core.specs.Verdict.{demand}
 use Rattle.gimple_types.specs.Seen.{seen}
-use Rattle.gimple_types.specs.Verdicts.{Becomes, Finds, Judges}
+use Rattle.gimple_types.specs.Verdicts.{Becomes}
 use Rattle.gimple_core.specs.Env.{Env}
 use Rattle.gimple_core.proofs.ProgramTyped.{registers_are, locals_are}
 use Rattle.gimple_types.proofs.NameLemmas.{not_empty}

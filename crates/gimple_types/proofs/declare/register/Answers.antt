@@ -1,10 +1,8 @@
-use Rattle.std.proofs.Common.{rules, ◌≡◌, [], ◌∷◌, ◌++◌, ℕ, Bool, true, false, not, List, Result, Ok, Err, arith, refl, sym, ap, ◌∙◌, subst}
-use Rattle.gimple_core.specs.Accepted.{known_env}
+use Rattle.std.proofs.Common.{rules, ◌≡◌, not, Ok}
 use Rattle.gimple_core.specs.Declarations as spec
-use Rattle.gimple_core.specs.Env.{has, declared, structs_by_name}
-use Rattle.gimple_core.specs.Verdict.{and_then, demand}
+use Rattle.gimple_core.specs.Env.{has}
+use Rattle.gimple_core.specs.Verdict.{demand}
 use Rattle.gimple_types.specs.Seen.{seen}
-use Rattle.gimple_types.specs.Verdicts.{Becomes, Finds, Judges}
 use Rattle.gimple_types.proofs.declare.register.Goals as goal
 
 pub returns-in_err-declare : goal.returns-in_err-declare

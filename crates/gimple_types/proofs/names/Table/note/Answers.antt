@@ -1,8 +1,8 @@
-use Rattle.std.proofs.Common.{rules, ◌≡◌, ap, sym, ◌∙◌, not, is_some, true, false, None, Some, Option, true≢false, refl, Bor, List, ℕ, [], ◌∷◌, ◌++◌}
+use Rattle.std.proofs.Common.{◌≡◌, ap, sym, ◌∙◌, not, is_some, true, false, [], ◌∷◌, ◌++◌}
 use Rattle.indexmap.proofs.CallerLemmas.{insert_entry-new}
-use Rattle.gimple_types.proofs.TableLemmas.{is_key, found_plain, plain_pushed, noted_old, noted_new, no_value}
+use Rattle.gimple_types.proofs.TableLemmas.{found_plain, plain_pushed, noted_old, noted_new, no_value}
 use Rattle.gimple_core.specs.Env.{named}
-use Rattle.gimple_types.specs.Tables.{plain, noted}
+use Rattle.gimple_types.specs.Tables.{plain}
 use Rattle.gimple_types.proofs.names.Table.note.Goals as goal
 
 pub returns-then-contains_key-clause-new : goal.returns-then-contains_key-clause-new
