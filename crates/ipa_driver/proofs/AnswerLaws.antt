@@ -1,20 +1,19 @@
 -- Laws of the answers of a run.
-use Rattle.std.proofs.Common.{◌≡◌, ◌⊎◌, inl, inr, ℕ, ◌+◌, ◌-◌, ◌≤◌, List, length, take, Option, Some, None, Result, Ok, Err, IfOk, MatchResult, refl, sym, ◌∙◌, subst}
+use Rattle.std.proofs.Common.{◌≡◌, ◌⊎◌, inl, inr, ℕ, ◌+◌, ◌-◌, ◌≤◌, List, length, take, Option, Some, None, Result, Ok, Err, MatchResult, refl, sym, ◌∙◌, subst}
 use Rattle.std.specs.Option.{IsSomeAnd, IfSome}
 use Rattle.shelf.specs.Outside.{Meaning, Contents, at_name, Rose, RoseBy, OnSource, LacksSource, Appends, IsToldCut}
 use Rattle.words.specs.declared.options.SourceName.{SourceName}
-use Rattle.words.specs.declared.options.Options.{Options}
-use Rattle.words.specs.declared.options.UsageFault.{UsageFault}
-use Rattle.words.specs.Words.{bytes_of, options_of}
+use Rattle.words.specs.Words.{bytes_of}
 use Rattle.gimple_ir.specs.declared.program.Program.{Program}
 use Rattle.gimple_core.specs.Sealed.{Sealed}
 use Rattle.gimple_text.proofs.Laws.{spelled_spellable}
 use Rattle.ipa_driver.proofs.SizeLaws.{countable}
+use Rattle.ipa_driver.specs.declared.tool.Tool.{Tool}
 use Rattle.ipa_driver.specs.declared.finish.Fault.{Fault}
 use Rattle.ipa_driver.specs.declared.finish.Fault.TheVariants.{Usage, Read, Long, Text, Types, Write, Memory}
 use Rattle.ipa_driver.specs.Stores.{IsCut}
 use Rattle.ipa_driver.specs.Verdict.{LIMIT, Verdict, TooLong, BadText, BadTypes, Good, IsVerdict}
-use Rattle.ipa_driver.specs.Answers.{input_of, HasVerdict, Refused, IsGoodSource, Answer, IsMisused, IsComplete, TellsOne, CanStore, WithinRoom, NoneRose, input_bytes}
+use Rattle.ipa_driver.specs.Answers.{input_of, HasVerdict, Refused, IsGoodSource, Answer, IsComplete, TellsOne, WithinRoom, NoneRose, MadeOf}
 use Rattle.ipa_driver.specs.Work.{LoadsText, Judges, IsLoaded, WorkKeeps, WorkSure, MessageTold}
 use Rattle.ipa_driver.proofs.VerdictLaws.{one}
 
@@ -62,26 +61,26 @@ lacks : (sources : Option Contents) (words : List (List ℕ)) (source : SourceNa
 lacks None words source h g = g
 lacks (Some m) words source h g = some_lacks (at_name m (bytes_of words (input_of source))) (λ bytes. (p : Program) × IsVerdict bytes (Good p)) h g
 
-pub complete : (words : List (List ℕ)) (o : Options) (old new : Meaning) (fault : Option Fault) → Answer words o old new fault → IsComplete words o old new fault
-complete words o old new None a g read write = inl refl
-complete words o old new (Some (Usage f)) a g read write = absurd a.0
-complete words o old new (Some Read) a g read write =
-    elim a.0 [ inl rose ↦ absurd (read rose) | inr lacking ↦ absurd (lacks old.sources words o.source lacking g) ]
-complete words o old new (Some Long) a g read write =
-    let e = good TooLong old.sources words o.source a.0.1 g in let x : TooLong ≡ Good e.0 = e.1 in absurd cc
-complete words o old new (Some (Text f)) a g read write =
-    let e = good (BadText f) old.sources words o.source a.0 g in let x : BadText f ≡ Good e.0 = e.1 in absurd cc
-complete words o old new (Some (Types f)) a g read write =
-    let e = good (BadTypes f) old.sources words o.source a.0 g in let x : BadTypes f ≡ Good e.0 = e.1 in absurd cc
-complete words o old new (Some (Write name)) a g read write = absurd (write a.rose)
-complete words o old new (Some Memory) a g read write = inr refl
+pub complete : (words : List (List ℕ)) (input : SourceName) (Makes : MadeOf) (old new : Meaning) (fault : Option Fault) → Answer words input Makes old new fault → IsComplete words input old new fault
+complete words input Makes old new None a g read write = inl refl
+complete words input Makes old new (Some (Usage f)) a g read write = absurd a.0
+complete words input Makes old new (Some Read) a g read write =
+    elim a.0 [ inl rose ↦ absurd (read rose) | inr lacking ↦ absurd (lacks old.sources words input lacking g) ]
+complete words input Makes old new (Some Long) a g read write =
+    let e = good TooLong old.sources words input a.0.1 g in let x : TooLong ≡ Good e.0 = e.1 in absurd cc
+complete words input Makes old new (Some (Text f)) a g read write =
+    let e = good (BadText f) old.sources words input a.0 g in let x : BadText f ≡ Good e.0 = e.1 in absurd cc
+complete words input Makes old new (Some (Types f)) a g read write =
+    let e = good (BadTypes f) old.sources words input a.0 g in let x : BadTypes f ≡ Good e.0 = e.1 in absurd cc
+complete words input Makes old new (Some (Write name)) a g read write = absurd (write a.rose)
+complete words input Makes old new (Some Memory) a g read write = inr refl
 
 -- A tell leaves the answer as it is.
-module _ (words : List (List ℕ)) (o : Options) (old mid new : Meaning)
+module _ (words : List (List ℕ)) (input : SourceName) (Makes : MadeOf) (old mid new : Meaning)
     (stores : new.stores ≡ mid.stores) (read : new.read_faults ≡ mid.read_faults) (write : new.write_faults ≡ mid.write_faults) (taken : new.taken ≡ mid.taken) where
-  pub answer_after : (fault : Fault) → Answer words o old mid (Some fault) → Answer words o old new (Some fault)
+  pub answer_after : (fault : Fault) → Answer words input Makes old mid (Some fault) → Answer words input Makes old new (Some fault)
   answer_after (Usage f) a = (a.0, stores ∙ a.1)
-  answer_after Read a = (subst (λ n. Rose old.read_faults n ⊎ LacksSource old.sources (bytes_of words (input_of o.source))) (sym read) a.0, stores ∙ a.1)
+  answer_after Read a = (subst (λ n. Rose old.read_faults n ⊎ LacksSource old.sources (bytes_of words (input_of input))) (sym read) a.0, stores ∙ a.1)
   answer_after Long a = ((subst (λ n. RoseBy (LIMIT + 1) old.taken n) (sym taken) a.0.0, a.0.1), stores ∙ a.1)
   answer_after (Text f) a = (a.0, stores ∙ a.1)
   answer_after (Types f) a = (a.0, stores ∙ a.1)
@@ -96,16 +95,10 @@ module _ (words : List (List ℕ)) (o : Options) (old mid new : Meaning)
   answer_after Memory a = (a.0, stores ∙ a.1)
 
 -- the message after the work
-module _ (words : List (List ℕ)) (o : Options) (fault : Fault) (input : List ℕ) (old mid new : Meaning)
-    (keeps : WorkKeeps old mid) (t : MessageTold input words fault mid new)
-    (lawful : options_of words ≡ Ok o) (named : input ≡ bytes_of words (input_of o.source))
-    (sure : WorkSure words o old mid (Err fault)) where
-  same_input : input_bytes words ≡ input
-  same_input = rw lawful (sym named)
-
-  fits : (r : ℕ) → CanStore words old.sources r → WithinRoom words o old.sources r
-  fits r can = subst (λ (l : Result Options UsageFault). MatchResult l (λ o. WithinRoom words o old.sources r) (λ _. Unit {0})) lawful can
-
+module _ (tool : Tool) (words : List (List ℕ)) (source : SourceName) (Makes : MadeOf) (fault : Fault) (input : List ℕ) (Fits : ℕ → Type 0) (old mid new : Meaning)
+    (keeps : WorkKeeps old mid) (t : MessageTold tool input words fault mid new)
+    (fits : (r : ℕ) → Fits r → WithinRoom words source Makes old.sources r)
+    (sure : WorkSure words source Makes old mid (Err fault)) where
   told_whole : (r : ℕ) → mid.sure ≡ Some r → length t.message ≤ r → (new.tell_faults ≡ mid.tell_faults) × Appends mid.told new.told t.message
   told_whole r e short =
       let s = subst (λ (m : Option ℕ). IfSome m (λ r. length t.message ≤ r → (new.sure ≡ Some (r - length t.message)) × (new.tell_faults ≡ mid.tell_faults) × Appends mid.told new.told t.message)) e t.tells.sure in
@@ -118,8 +111,8 @@ module _ (words : List (List ℕ)) (o : Options) (fault : Fault) (input : List �
       (record { read = t.tells.read ∙ w.0; write = t.tells.write ∙ w.1; tell = x.0 ∙ keeps.tell }, subst (λ (m : Option (List ℕ)). Appends m new.told t.message) keeps.told x.1)
 
   surely : (s : Option ℕ)
-      → IfSome s (λ r. WithinRoom words o old.sources r → (mid.read_faults ≡ old.read_faults) × (mid.write_faults ≡ old.write_faults) × (mid.sure ≡ Some r))
-      → IfSome s (λ r. length t.message ≤ r → CanStore words old.sources r → NoneRose old new × Appends old.told new.told t.message)
+      → IfSome s (λ r. WithinRoom words source Makes old.sources r → (mid.read_faults ≡ old.read_faults) × (mid.write_faults ≡ old.write_faults) × (mid.sure ≡ Some r))
+      → IfSome s (λ r. length t.message ≤ r → Fits r → NoneRose old new × Appends old.told new.told t.message)
   surely None h = tt
   surely (Some r) h = λ short can. none_rose r (h (fits r can)) short
 
@@ -131,23 +124,20 @@ module _ (words : List (List ℕ)) (o : Options) (fault : Fault) (input : List �
     told = subst (λ (m : Option (List ℕ)). Appends m new.told (take c.kept t.message)) keeps.told c.told;
   })
 
-  pub told_after : TellsOne words fault old new
+  pub told_after : TellsOne tool input words Fits fault old new
   told_after = record {
     message = t.message;
-    is_message = rw same_input t.is_message;
+    is_message = t.is_message;
     told = told_or_cut t.tells.told;
     sure = surely old.sure sure;
   }
 
 -- the answer after the message
-module _ (words : List (List ℕ)) (o : Options) (fault : Fault) (result : Option Fault) (input : List ℕ) (old mid new : Meaning)
-    (lawful : options_of words ≡ Ok o) (faulty : result ≡ Some fault)
-    (a : Answer words o old mid (Some fault)) (t : MessageTold input words fault mid new) where
-  answer : Answer words o old new result
-  answer = subst (λ (f : Option Fault). Answer words o old new f) (sym faulty) (answer_after words o old mid new t.tells.stores t.tells.read t.tells.write t.tells.taken fault a)
+module _ (tool : Tool) (words : List (List ℕ)) (source : SourceName) (Makes : MadeOf) (fault : Fault) (result : Option Fault) (input : List ℕ) (old mid new : Meaning)
+    (faulty : result ≡ Some fault)
+    (a : Answer words source Makes old mid (Some fault)) (t : MessageTold tool input words fault mid new) where
+  pub answered : Answer words source Makes old new result
+  answered = subst (λ (f : Option Fault). Answer words source Makes old new f) (sym faulty) (answer_after words source Makes old mid new t.tells.stores t.tells.read t.tells.write t.tells.taken fault a)
 
-  pub answered : MatchResult (options_of words) (λ o. Answer words o old new result) (λ f. IsMisused f old new result)
-  answered = subst (λ (l : Result Options UsageFault). MatchResult l (λ o. Answer words o old new result) (λ f. IsMisused f old new result)) (sym lawful) answer
-
-  pub completed : IfOk (options_of words) (λ o. IsComplete words o old new result)
-  completed = subst (λ (l : Result Options UsageFault). IfOk l (λ o. IsComplete words o old new result)) (sym lawful) (complete words o old new result answer)
+  pub completed : IsComplete words source old new result
+  completed = complete words source Makes old new result answered

@@ -4,19 +4,19 @@ use Rattle.std.specs.Prelude.{IsOkAnd}
 use Rattle.std.specs.Option.{IsSomeAnd, IfSome}
 use Rattle.shelf.specs.Outside.{Meaning, Contents, at_name, OnSource}
 use Rattle.words.specs.declared.options.Name.{Name}
-use Rattle.words.specs.declared.options.Options.{Options}
+use Rattle.words.specs.declared.options.SourceName.{SourceName}
 use Rattle.words.specs.Words.{bytes_of}
 use Rattle.gimple_core.specs.Sealed.{Sealed}
 use Rattle.ipa_driver.specs.declared.outputs.Output.{Output}
 use Rattle.ipa_driver.specs.Verdict.{Good, IsVerdict}
-use Rattle.ipa_driver.specs.Stores.{pairs, total, AreOutputs, StoresOnly, AreStored, IsCut, IsStoreFault, StaysSure}
-use Rattle.ipa_driver.specs.Answers.{input_of, IsDone, IsNotWritten, CostsAtMost, WithinRoom}
+use Rattle.ipa_driver.specs.Stores.{pairs, total, StoresOnly, AreStored, IsCut, IsStoreFault, StaysSure}
+use Rattle.ipa_driver.specs.Answers.{input_of, MadeOf, IsDone, IsNotWritten, CostsAtMost, WithinRoom}
 use Rattle.ipa_driver.specs.Work.{Loads, IsLoaded}
 
-module _ (words : List (List ℕ)) (o : Options) (old mid new : Meaning) (checked : Sealed) (outputs : List Output)
-    (loads : Loads old mid) (loaded : IsLoaded words o.source old mid checked)
-    (made : AreOutputs o checked.program outputs) (only : StoresOnly mid new) where
-  pub done : AreStored words outputs mid new → IsDone words o old new
+module _ (words : List (List ℕ)) (input : SourceName) (Makes : MadeOf) (old mid new : Meaning) (checked : Sealed) (outputs : List Output)
+    (loads : Loads old mid) (loaded : IsLoaded words input old mid checked)
+    (made : Makes checked.program outputs) (only : StoresOnly mid new) where
+  pub done : AreStored words outputs mid new → IsDone words input Makes old new
   done s = record {
     source = checked.program;
     outputs = outputs;
@@ -29,7 +29,7 @@ module _ (words : List (List ℕ)) (o : Options) (old mid new : Meaning) (checke
     tell = only.tell ∙ loads.tell;
   }
 
-  pub not_written : (name : Name) → IsStoreFault words outputs mid new name → IsNotWritten words o old new name
+  pub not_written : (name : Name) → IsStoreFault words outputs mid new name → IsNotWritten words input Makes old new name
   not_written name s = record {
     source = checked.program;
     outputs = outputs;
@@ -39,29 +39,29 @@ module _ (words : List (List ℕ)) (o : Options) (old mid new : Meaning) (checke
     cut = subst (λ (st : Option Contents). IsCut words outputs name st new.stores) loads.stores s.cut;
   }
 
-  some_fits : (r : ℕ) (found : Option (List ℕ)) → IsSomeAnd found (λ bytes. IsVerdict bytes (Good checked.program)) → IfSome found (CostsAtMost words o r) → total (pairs words outputs) ≤ r
+  some_fits : (r : ℕ) (found : Option (List ℕ)) → IsSomeAnd found (λ bytes. IsVerdict bytes (Good checked.program)) → IfSome found (CostsAtMost words Makes r) → total (pairs words outputs) ≤ r
   some_fits r None h room = absurd h
   some_fits r (Some bytes) h room = room checked.program h outputs made
 
-  source_fits : (r : ℕ) (sources : Option Contents) → OnSource sources (bytes_of words (input_of o.source)) (λ bytes. IsVerdict bytes (Good checked.program)) → WithinRoom words o sources r → total (pairs words outputs) ≤ r
+  source_fits : (r : ℕ) (sources : Option Contents) → OnSource sources (bytes_of words (input_of input)) (λ bytes. IsVerdict bytes (Good checked.program)) → WithinRoom words input Makes sources r → total (pairs words outputs) ≤ r
   source_fits r None h room = absurd room
-  source_fits r (Some m) h room = some_fits r (at_name m (bytes_of words (input_of o.source))) h room
+  source_fits r (Some m) h room = some_fits r (at_name m (bytes_of words (input_of input))) h room
 
-  surely : (r : ℕ) (result : Result (Unit {0}) Name) → StaysSure words outputs mid new result → mid.sure ≡ Some r → WithinRoom words o old.sources r → IsOkAnd result (λ _. (new.write_faults ≡ mid.write_faults) × (new.sure ≡ Some (r - total (pairs words outputs))))
+  surely : (r : ℕ) (result : Result (Unit {0}) Name) → StaysSure words outputs mid new result → mid.sure ≡ Some r → WithinRoom words input Makes old.sources r → IsOkAnd result (λ _. (new.write_faults ≡ mid.write_faults) × (new.sure ≡ Some (r - total (pairs words outputs))))
   surely r result h e room =
       let s = subst (λ (m : Option ℕ). IfSome m (λ r. total (pairs words outputs) ≤ r → IsOkAnd result (λ _. (new.write_faults ≡ mid.write_faults) × (new.sure ≡ Some (r - total (pairs words outputs)))))) e h in
       s (source_fits r old.sources loaded.good room)
 
-  some_done : (s : Option ℕ) → IfSome s (λ r. (mid.sure ≡ Some r) × (mid.read_faults ≡ old.read_faults)) → StaysSure words outputs mid new (Ok tt) → IfSome s (λ r. WithinRoom words o old.sources r → (new.read_faults ≡ old.read_faults) × (new.write_faults ≡ old.write_faults) × Unit {0})
+  some_done : (s : Option ℕ) → IfSome s (λ r. (mid.sure ≡ Some r) × (mid.read_faults ≡ old.read_faults)) → StaysSure words outputs mid new (Ok tt) → IfSome s (λ r. WithinRoom words input Makes old.sources r → (new.read_faults ≡ old.read_faults) × (new.write_faults ≡ old.write_faults) × Unit {0})
   some_done None l h = tt
   some_done (Some r) l h = λ room. let x = surely r (Ok tt) h l.0 room in (only.read ∙ l.1, x.0 ∙ loads.write, tt)
 
-  some_failed : (name : Name) (s : Option ℕ) → IfSome s (λ r. (mid.sure ≡ Some r) × (mid.read_faults ≡ old.read_faults)) → StaysSure words outputs mid new (Err name) → IfSome s (λ r. WithinRoom words o old.sources r → (new.read_faults ≡ old.read_faults) × (new.write_faults ≡ old.write_faults) × (new.sure ≡ Some r))
+  some_failed : (name : Name) (s : Option ℕ) → IfSome s (λ r. (mid.sure ≡ Some r) × (mid.read_faults ≡ old.read_faults)) → StaysSure words outputs mid new (Err name) → IfSome s (λ r. WithinRoom words input Makes old.sources r → (new.read_faults ≡ old.read_faults) × (new.write_faults ≡ old.write_faults) × (new.sure ≡ Some r))
   some_failed name None l h = tt
   some_failed name (Some r) l h = λ room. absurd (surely r (Err name) h l.0 room)
 
-  pub sure_failed : (name : Name) → StaysSure words outputs mid new (Err name) → IfSome old.sure (λ r. WithinRoom words o old.sources r → (new.read_faults ≡ old.read_faults) × (new.write_faults ≡ old.write_faults) × (new.sure ≡ Some r))
+  pub sure_failed : (name : Name) → StaysSure words outputs mid new (Err name) → IfSome old.sure (λ r. WithinRoom words input Makes old.sources r → (new.read_faults ≡ old.read_faults) × (new.write_faults ≡ old.write_faults) × (new.sure ≡ Some r))
   sure_failed name h = some_failed name old.sure loads.sure h
 
-  pub sure_done : StaysSure words outputs mid new (Ok tt) → IfSome old.sure (λ r. WithinRoom words o old.sources r → (new.read_faults ≡ old.read_faults) × (new.write_faults ≡ old.write_faults) × Unit {0})
+  pub sure_done : StaysSure words outputs mid new (Ok tt) → IfSome old.sure (λ r. WithinRoom words input Makes old.sources r → (new.read_faults ≡ old.read_faults) × (new.write_faults ≡ old.write_faults) × Unit {0})
   sure_done h = some_done old.sure loads.sure h

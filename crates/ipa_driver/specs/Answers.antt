@@ -12,6 +12,7 @@ use Rattle.gimple_ir.specs.declared.program.Program.{Program}
 use Rattle.ipa_driver.specs.declared.finish.Fault.{Fault}
 use Rattle.ipa_driver.specs.declared.finish.Fault.TheVariants.{Usage, Read, Long, Text, Types, Write, Memory}
 use Rattle.ipa_driver.specs.declared.outputs.Output.{Output}
+use Rattle.ipa_driver.specs.declared.tool.Tool.{Tool}
 use Rattle.ipa_driver.specs.Verdict.{LIMIT, Verdict, TooLong, BadText, BadTypes, Good, IsVerdict}
 use Rattle.ipa_driver.specs.Stores.{pairs, total, AreOutputs, IsCut}
 use Rattle.ipa_driver.specs.Messages.{message_of, memory_line}
@@ -55,12 +56,16 @@ Refused words source old new (Types f) = HasVerdict old.sources words source (Ba
 Refused words source old new (Write name) = ⊥
 Refused words source old new Memory = ⊤
 
+-- which lists of outputs a run on a program may have
+abbrev pub MadeOf : Type 1
+MadeOf = Program → List Output → Type 0
+
 -- Status 0: the source is good, every text made of it is stored, and nothing else is touched or told.
-pub record IsDone (words : List (List ℕ)) (o : Options) (old new : Meaning) : Type 0 where
+pub record IsDone (words : List (List ℕ)) (input : SourceName) (Makes : MadeOf) (old new : Meaning) : Type 0 where
   pub source : Program
   pub outputs : List Output
-  pub good : HasVerdict old.sources words o.source (Good source)
-  pub made : AreOutputs o source outputs
+  pub good : HasVerdict old.sources words input (Good source)
+  pub made : Makes source outputs
   pub stores : new.stores ≡ option_map (put_all (pairs words outputs)) old.stores
   pub told : new.told ≡ old.told
   pub read : new.read_faults ≡ old.read_faults
@@ -68,19 +73,19 @@ pub record IsDone (words : List (List ℕ)) (o : Options) (old new : Meaning) : 
   pub tell : new.tell_faults ≡ old.tell_faults
 
 -- Status 4: the source is good, and the shelf failed in the store of this name, which is one of those to be stored.
-pub record IsNotWritten (words : List (List ℕ)) (o : Options) (old new : Meaning) (name : Name) : Type 0 where
+pub record IsNotWritten (words : List (List ℕ)) (input : SourceName) (Makes : MadeOf) (old new : Meaning) (name : Name) : Type 0 where
   pub source : Program
   pub outputs : List Output
-  pub good : HasVerdict old.sources words o.source (Good source)
-  pub made : AreOutputs o source outputs
+  pub good : HasVerdict old.sources words input (Good source)
+  pub made : Makes source outputs
   pub rose : Rose old.write_faults new.write_faults
   pub cut : IsCut words outputs name old.stores new.stores
 
 -- the table of answers, for lawful words
-abbrev pub Answer : List (List ℕ) → Options → Meaning → Meaning → Option Fault → Type 0
-Answer words o old new None = IsDone words o old new
-Answer words o old new (Some (Write name)) = IsNotWritten words o old new name
-Answer words o old new (Some f) = Refused words o.source old new f × (new.stores ≡ old.stores)
+abbrev pub Answer : List (List ℕ) → SourceName → MadeOf → Meaning → Meaning → Option Fault → Type 0
+Answer words input Makes old new None = IsDone words input Makes old new
+Answer words input Makes old new (Some (Write name)) = IsNotWritten words input Makes old new name
+Answer words input Makes old new (Some f) = Refused words input old new f × (new.stores ≡ old.stores)
 
 -- Faulty words: this answer whatever memory there is, and nothing is fetched or stored.
 pub record IsMisused (f : UsageFault) (old new : Meaning) (answer : Option Fault) : Type 0 where
@@ -93,8 +98,8 @@ pub record IsMisused (f : UsageFault) (old new : Meaning) (answer : Option Fault
 -- messages
 
 -- the message of this fault, or the line of status 5, where no memory was found for it
-abbrev pub IsMessage : List ℕ → List (List ℕ) → Fault → List ℕ → Type 0
-IsMessage input words fault message = (message ≡ message_of input words fault) ⊎ (message ≡ memory_line)
+abbrev pub IsMessage : Tool → List ℕ → List (List ℕ) → Fault → List ℕ → Type 0
+IsMessage tool input words fault message = (message ≡ message_of tool input words fault) ⊎ (message ≡ memory_line tool)
 
 abbrev pub input_from : List (List ℕ) → Result Options UsageFault → List ℕ
 input_from words (Ok o) = bytes_of words (input_of o.source)
@@ -111,25 +116,25 @@ pub record NoneRose (old new : Meaning) : Type 0 where
   pub tell : new.tell_faults ≡ old.tell_faults
 
 -- all texts that a run on this source may store cost at most this many bytes
-abbrev pub CostsAtMost : List (List ℕ) → Options → ℕ → List ℕ → Type 0
-CostsAtMost words o r bytes =
-    (p : Program) → IsVerdict bytes (Good p) → (outputs : List Output) → AreOutputs o p outputs → total (pairs words outputs) ≤ r
+abbrev pub CostsAtMost : List (List ℕ) → MadeOf → ℕ → List ℕ → Type 0
+CostsAtMost words Makes r bytes =
+    (p : Program) → IsVerdict bytes (Good p) → (outputs : List Output) → Makes p outputs → total (pairs words outputs) ≤ r
 
 -- sources are told, and there is so much room for what is made of the source, if it is there and good
-abbrev pub WithinRoom : List (List ℕ) → Options → Option Contents → ℕ → Type 0
-WithinRoom words o sources r =
-    IsSomeAnd sources (λ m. IfSome (at_name m (bytes_of words (input_of o.source))) (CostsAtMost words o r))
+abbrev pub WithinRoom : List (List ℕ) → SourceName → MadeOf → Option Contents → ℕ → Type 0
+WithinRoom words input Makes sources r =
+    IsSomeAnd sources (λ m. IfSome (at_name m (bytes_of words (input_of input))) (CostsAtMost words Makes r))
 
 abbrev pub CanStore : List (List ℕ) → Option Contents → ℕ → Type 0
-CanStore words sources r = MatchResult (options_of words) (λ o. WithinRoom words o sources r) (λ _. ⊤)
+CanStore words sources r = MatchResult (options_of words) (λ o. WithinRoom words o.source (AreOutputs o) sources r) (λ _. ⊤)
 
 -- A run that ends otherwise than with status 0 tells one message. Where it surely fits, as all stores do, it is told whole,
 -- and no count of faults rises.
-pub record TellsOne (words : List (List ℕ)) (fault : Fault) (old new : Meaning) : Type 0 where
+pub record TellsOne (tool : Tool) (input : List ℕ) (words : List (List ℕ)) (Fits : ℕ → Type 0) (fault : Fault) (old new : Meaning) : Type 0 where
   pub message : List ℕ
-  pub is_message : IsMessage (input_bytes words) words fault message
+  pub is_message : IsMessage tool input words fault message
   pub told : Appends old.told new.told message ⊎ IsToldCut old new message
-  pub sure : IfSome old.sure (λ r. length message ≤ r → CanStore words old.sources r → NoneRose old new × Appends old.told new.told message)
+  pub sure : IfSome old.sure (λ r. length message ≤ r → Fits r → NoneRose old new × Appends old.told new.told message)
 
 -- completeness
 
@@ -139,9 +144,9 @@ IsGoodSource words source sources =
     IsSomeAnd sources (λ m. IsSomeAnd (at_name m (bytes_of words (input_of source))) (λ bytes. (p : Program) × IsVerdict bytes (Good p)))
 
 -- With a good source and a shelf that did not fail, the run is done, or memory was wanting.
-abbrev pub IsComplete : List (List ℕ) → Options → Meaning → Meaning → Option Fault → Type 0
-IsComplete words o old new fault =
-    IsGoodSource words o.source old.sources
+abbrev pub IsComplete : List (List ℕ) → SourceName → Meaning → Meaning → Option Fault → Type 0
+IsComplete words input old new fault =
+    IsGoodSource words input old.sources
     → (Rose old.read_faults new.read_faults → ⊥)
     → (Rose old.write_faults new.write_faults → ⊥)
     → (fault ≡ None) ⊎ (fault ≡ Some Memory)

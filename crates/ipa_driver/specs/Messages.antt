@@ -7,12 +7,19 @@ use Rattle.gimple_ir.specs.declared.fault.Site.TheVariants.{Whole, Struct, Globa
 use Rattle.gimple_text.specs.declared.fault.TextFault.{TextFault}
 use Rattle.gimple_text.specs.declared.fault.TextFault.TheVariants.{BadByte, BadToken, EarlyEnd, Memory as TextMemory}
 use Rattle.gimple_tokens.specs.declared.spot.Spot.{Spot}
+use Rattle.ipa_driver.specs.declared.tool.Tool.{Tool}
+use Rattle.ipa_driver.specs.declared.tool.Tool.TheVariants.{Optimiser, Runner}
 use Rattle.ipa_driver.specs.declared.finish.Fault.{Fault}
 use Rattle.ipa_driver.specs.declared.finish.Fault.TheVariants.{Usage, Read, Long, Text, Types, Write, Memory}
 
+-- what a tool is called
+abbrev pub tool_name : Tool → List ℕ
+tool_name Optimiser = codes "gimple-ipa"
+tool_name Runner = codes "gimple-run"
+
 -- the line of want of memory
-abbrev pub memory_line : List ℕ
-memory_line = codes "gimple-ipa: error: out of memory\n"
+abbrev pub memory_line : Tool → List ℕ
+memory_line tool = tool_name tool ++ codes ": error: out of memory\n"
 
 -- structs, globals and functions count from 1 here
 abbrev pub site_text : Site → List ℕ
@@ -56,18 +63,18 @@ abbrev pub spot_text : Spot → List ℕ
 spot_text spot = codes ":" ++ decimal spot.line ++ codes ":" ++ decimal spot.column
 
 -- a text fault that never comes has the line of want of memory
-abbrev pub text_message : List ℕ → TextFault → List ℕ
-text_message input (BadByte spot) = input ++ spot_text spot ++ codes ": error: bad byte\n"
-text_message input (BadToken spot) = input ++ spot_text spot ++ codes ": error: bad token\n"
-text_message input (EarlyEnd spot) = input ++ spot_text spot ++ codes ": error: early end\n"
-text_message input (TextMemory e) = memory_line
+abbrev pub text_message : Tool → List ℕ → TextFault → List ℕ
+text_message tool input (BadByte spot) = input ++ spot_text spot ++ codes ": error: bad byte\n"
+text_message tool input (BadToken spot) = input ++ spot_text spot ++ codes ": error: bad token\n"
+text_message tool input (EarlyEnd spot) = input ++ spot_text spot ++ codes ": error: early end\n"
+text_message tool input (TextMemory e) = memory_line tool
 
--- the message of a fault, by the input's name
-abbrev pub message_of : List ℕ → List (List ℕ) → Fault → List ℕ
-message_of input words (Usage f) = codes "gimple-ipa: word " ++ decimal f.word ++ codes ": error: " ++ usage_text f.code ++ codes "\n"
-message_of input words Read = input ++ codes ": error: cannot read\n"
-message_of input words Long = input ++ codes ": error: too long\n"
-message_of input words (Text f) = text_message input f
-message_of input words (Types f) = input ++ codes ": " ++ site_text f.site ++ codes ": error: " ++ type_text f.code ++ codes "\n"
-message_of input words (Write name) = bytes_of words name ++ codes ": error: cannot write\n"
-message_of input words Memory = memory_line
+-- the message of a fault, by the tool and the input's name
+abbrev pub message_of : Tool → List ℕ → List (List ℕ) → Fault → List ℕ
+message_of tool input words (Usage f) = tool_name tool ++ codes ": word " ++ decimal f.word ++ codes ": error: " ++ usage_text f.code ++ codes "\n"
+message_of tool input words Read = input ++ codes ": error: cannot read\n"
+message_of tool input words Long = input ++ codes ": error: too long\n"
+message_of tool input words (Text f) = text_message tool input f
+message_of tool input words (Types f) = input ++ codes ": " ++ site_text f.site ++ codes ": error: " ++ type_text f.code ++ codes "\n"
+message_of tool input words (Write name) = bytes_of words name ++ codes ": error: cannot write\n"
+message_of tool input words Memory = memory_line tool

@@ -2,14 +2,14 @@
 use Rattle.std.specs.Prelude.{◌≡◌, ◌⊎◌, ℕ, ◌+◌, ◌<◌, ◌≤◌, List, length, Some, IfSome, Result, Ok, Err, OnErr, ⊤}
 use Rattle.shelf.specs.Outside.{Meaning, Rose, RoseBy, OnSource, LacksSource, Tells}
 use Rattle.words.specs.declared.options.SourceName.{SourceName}
-use Rattle.words.specs.declared.options.Options.{Options}
 use Rattle.gimple_core.specs.Sealed.{Sealed}
 use Rattle.gimple_text.specs.Canon.{IsSpellable}
 use Rattle.gimple_types.specs.Counts.{IsCountable}
+use Rattle.ipa_driver.specs.declared.tool.Tool.{Tool}
 use Rattle.ipa_driver.specs.declared.finish.Fault.{Fault}
 use Rattle.ipa_driver.specs.declared.finish.Fault.TheVariants.{Read, Long, Text, Types, Memory}
 use Rattle.ipa_driver.specs.Verdict.{LIMIT, BadText, BadTypes, Good, IsVerdict}
-use Rattle.ipa_driver.specs.Answers.{HasVerdict, IsMessage, WithinRoom}
+use Rattle.ipa_driver.specs.Answers.{HasVerdict, MadeOf, IsMessage, WithinRoom}
 
 -- what stays the same until every text is made
 pub record Loads (old new : Meaning) : Type 0 where
@@ -58,13 +58,13 @@ pub record WorkKeeps (old new : Meaning) : Type 0 where
   pub tell : new.tell_faults ≡ old.tell_faults
 
 -- Within what is sure no count rises, and a run that stores nothing uses nothing.
-abbrev pub WorkSure : List (List ℕ) → Options → Meaning → Meaning → Result (Unit {0}) Fault → Type 0
-WorkSure words o old new result =
-    IfSome old.sure (λ r. WithinRoom words o old.sources r →
+abbrev pub WorkSure : List (List ℕ) → SourceName → MadeOf → Meaning → Meaning → Result (Unit {0}) Fault → Type 0
+WorkSure words input Makes old new result =
+    IfSome old.sure (λ r. WithinRoom words input Makes old.sources r →
     (new.read_faults ≡ old.read_faults) × (new.write_faults ≡ old.write_faults) × OnErr result (new.sure ≡ Some r))
 
 -- one message, or the line of status 5, is told
-pub record MessageTold (input : List ℕ) (words : List (List ℕ)) (fault : Fault) (old new : Meaning) : Type 0 where
+pub record MessageTold (tool : Tool) (input : List ℕ) (words : List (List ℕ)) (fault : Fault) (old new : Meaning) : Type 0 where
   pub message : List ℕ
-  pub is_message : IsMessage input words fault message
+  pub is_message : IsMessage tool input words fault message
   pub tells : Tells old new message

@@ -7,6 +7,8 @@ mod load;
 mod message;
 mod outputs;
 mod passes;
+mod tell;
+mod tool;
 mod top;
 mod verdict;
 

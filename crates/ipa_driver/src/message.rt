@@ -3,17 +3,15 @@
 ghost use Rattle.std.specs.Prelude.{◌≡◌, ◌++◌, IfOk, codes};
 ghost use Rattle.std.specs.Fmt.{decimal};
 ghost use Rattle.words.specs.Words.{usage_text};
-ghost use Rattle.ipa_driver.specs.Messages.{message_of, text_message, spot_text, site_text, type_text};
+ghost use Rattle.ipa_driver.specs.Messages.{message_of, tool_name, text_message, spot_text, site_text, type_text};
 
 use crate::fault_texts::{push_number, push_site, push_spot, type_text};
 use crate::finish::Fault;
+use crate::tool::Tool;
 use gimple_core::{OutOfMemory, Text, TypeFault};
 use gimple_text::{Spot, TextFault};
 use std::alloc::Global;
 use words::{UsageFault, name_bytes, usage_text};
-
-/// The line of want of memory.
-pub const MEMORY_LINE: &str = "gimple-ipa: error: out of memory\n";
 
 /// A name, and then a text.
 fn about(alloc: Global, name: &[u8], rest: &str) -> Result<Text, OutOfMemory>
@@ -24,10 +22,11 @@ fn about(alloc: Global, name: &[u8], rest: &str) -> Result<Text, OutOfMemory>
     Ok(text)
 }
 
-fn usage_message(alloc: Global, fault: &UsageFault) -> Result<Text, OutOfMemory>
-    ensures { IfOk result (λ text. text ≡ codes "gimple-ipa: word " ++ decimal fault.now.word ++ codes ": error: " ++ usage_text fault.now.code ++ codes "\n") }
+fn usage_message(alloc: Global, tool: Tool, fault: &UsageFault) -> Result<Text, OutOfMemory>
+    ensures { IfOk result (λ text. text ≡ tool_name tool ++ codes ": word " ++ decimal fault.now.word ++ codes ": error: " ++ usage_text fault.now.code ++ codes "\n") }
 {
-    let mut text = Text::from_bytes(alloc, "gimple-ipa: word ".as_bytes())?;
+    let mut text = Text::from_bytes(alloc, tool.name().as_bytes())?;
+    text.push_all(": word ".as_bytes())?;
     push_number(&mut text, fault.word as u64)?;
     text.push_all(": error: ".as_bytes())?;
     text.push_all(usage_text(fault.code).as_bytes())?;
@@ -56,33 +55,39 @@ fn type_message(alloc: Global, input: &[u8], fault: &TypeFault) -> Result<Text, 
     Ok(text)
 }
 
-fn text_message(alloc: Global, input: &[u8], fault: &TextFault) -> Result<Text, OutOfMemory>
-    ensures { IfOk result (λ text. text ≡ text_message input.now fault.now) }
+fn text_message(
+    alloc: Global,
+    tool: Tool,
+    input: &[u8],
+    fault: &TextFault,
+) -> Result<Text, OutOfMemory>
+    ensures { IfOk result (λ text. text ≡ text_message tool input.now fault.now) }
 {
     match fault {
         TextFault::BadByte(spot) => spot_message(alloc, input, spot, ": error: bad byte\n"),
         TextFault::BadToken(spot) => spot_message(alloc, input, spot, ": error: bad token\n"),
         TextFault::EarlyEnd(spot) => spot_message(alloc, input, spot, ": error: early end\n"),
-        TextFault::Memory(_) => about(alloc, b"", MEMORY_LINE),
+        TextFault::Memory(_) => about(alloc, b"", tool.memory_line()),
     }
 }
 
-/// The message of a fault, by the input's name.
+/// The message of a fault, by the tool and the input's name.
 pub fn message(
     alloc: Global,
+    tool: Tool,
     input: &[u8],
     words: &[Text],
     fault: &Fault,
 ) -> Result<Text, OutOfMemory>
-    ensures { IfOk result (λ text. text ≡ message_of input.now words.now fault.now) }
+    ensures { IfOk result (λ text. text ≡ message_of tool input.now words.now fault.now) }
 {
     match fault {
-        Fault::Usage(fault) => usage_message(alloc, fault),
+        Fault::Usage(fault) => usage_message(alloc, tool, fault),
         Fault::Read => about(alloc, input, ": error: cannot read\n"),
         Fault::Long => about(alloc, input, ": error: too long\n"),
-        Fault::Text(fault) => text_message(alloc, input, fault),
+        Fault::Text(fault) => text_message(alloc, tool, input, fault),
         Fault::Types(fault) => type_message(alloc, input, fault),
         Fault::Write(name) => about(alloc, name_bytes(words, name), ": error: cannot write\n"),
-        Fault::Memory => about(alloc, b"", MEMORY_LINE),
+        Fault::Memory => about(alloc, b"", tool.memory_line()),
     }
 }

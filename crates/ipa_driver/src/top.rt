@@ -2,13 +2,16 @@
 
 ghost use Rattle.std.specs.Prelude.{◌≡◌, MatchResult, IfOk, IfSome, Some};
 ghost use Rattle.words.specs.Words.{options_of};
-ghost use Rattle.ipa_driver.specs.Answers.{Answer, IsDone, IsMisused, TellsOne, IsComplete, fault_status, status_of};
-ghost use Rattle.ipa_driver.specs.Work.{WorkKeeps, WorkSure, MessageTold};
+ghost use Rattle.ipa_driver.specs.declared.tool.Tool.TheVariants.{Optimiser};
+ghost use Rattle.ipa_driver.specs.Stores.{AreOutputs};
+ghost use Rattle.ipa_driver.specs.Answers.{Answer, IsDone, IsMisused, TellsOne, IsComplete, CanStore, input_bytes, status_of};
+ghost use Rattle.ipa_driver.specs.Work.{WorkKeeps, WorkSure};
 
 use crate::finish::{Fault, Finish};
 use crate::load::{input_bytes, load};
-use crate::message::{MEMORY_LINE, message};
 use crate::outputs::{outputs_of, store_all};
+use crate::tell::tell;
+use crate::tool::Tool;
 use gimple_core::Text;
 use shelf::Shelf;
 use std::alloc::Global;
@@ -19,11 +22,12 @@ use words::{Options, read_words};
 pub fn optimise_alone<S: Shelf>(alloc: Global, words: &[Text], shelf: &mut S) -> Finish
     ensures status { result.status ≡ status_of result.fault }
     ensures answer { MatchResult (options_of words.now)
-        (λ options. Answer words.now options (S.meaning shelf.old) (S.meaning shelf.new) result.fault)
+        (λ options. Answer words.now options.source (AreOutputs options) (S.meaning shelf.old) (S.meaning shelf.new) result.fault)
         (λ fault. IsMisused fault (S.meaning shelf.old) (S.meaning shelf.new) result.fault) }
-    ensures told { IfSome result.fault (λ fault. TellsOne words.now fault (S.meaning shelf.old) (S.meaning shelf.new)) }
+    ensures told { IfSome result.fault (λ fault.
+        TellsOne Optimiser (input_bytes words.now) words.now (CanStore words.now (S.meaning shelf.old).sources) fault (S.meaning shelf.old) (S.meaning shelf.new)) }
     ensures complete { IfOk (options_of words.now) (λ options.
-        IsComplete words.now options (S.meaning shelf.old) (S.meaning shelf.new) result.fault) }
+        IsComplete words.now options.source (S.meaning shelf.old) (S.meaning shelf.new) result.fault) }
 {
     match read_words(words) {
         Ok(options) => match work(alloc, words, &options, shelf) {
@@ -33,10 +37,17 @@ pub fn optimise_alone<S: Shelf>(alloc: Global, words: &[Text], shelf: &mut S) ->
             },
             Err(fault) => {
                 let input = input_bytes(words, &options.source);
-                tell(alloc, input, words, fault, shelf)
+                tell(alloc, Tool::Optimiser, input, words, fault, shelf)
             }
         },
-        Err(fault) => tell(alloc, b"", words, Fault::Usage(fault), shelf),
+        Err(fault) => tell(
+            alloc,
+            Tool::Optimiser,
+            b"",
+            words,
+            Fault::Usage(fault),
+            shelf,
+        ),
     }
 }
 
@@ -49,9 +60,9 @@ fn work<S: Shelf>(
 ) -> Result<(), Fault>
     ensures keeps { WorkKeeps (S.meaning shelf.old) (S.meaning shelf.new) }
     ensures answer { MatchResult result
-        (λ _. IsDone words.now options.now (S.meaning shelf.old) (S.meaning shelf.new))
-        (λ fault. Answer words.now options.now (S.meaning shelf.old) (S.meaning shelf.new) (Some fault)) }
-    ensures sure { WorkSure words.now options.now (S.meaning shelf.old) (S.meaning shelf.new) result }
+        (λ _. IsDone words.now options.now.source (AreOutputs options.now) (S.meaning shelf.old) (S.meaning shelf.new))
+        (λ fault. Answer words.now options.now.source (AreOutputs options.now) (S.meaning shelf.old) (S.meaning shelf.new) (Some fault)) }
+    ensures sure { WorkSure words.now options.now.source (AreOutputs options.now) (S.meaning shelf.old) (S.meaning shelf.new) result }
 {
     let program = load(alloc, words, &options.source, shelf)?;
     let outputs = match outputs_of(alloc, program, options) {
@@ -61,26 +72,5 @@ fn work<S: Shelf>(
     match store_all(words, &outputs, shelf) {
         Ok(()) => Ok(()),
         Err(name) => Err(Fault::Write(name)),
-    }
-}
-
-/// Tells the message of a fault, or the line of status 5 where there is no memory for it.
-fn tell<S: Shelf>(
-    alloc: Global,
-    input: &[u8],
-    words: &[Text],
-    fault: Fault,
-    shelf: &mut S,
-) -> Finish
-    ensures finish { result ≡ record { status = fault_status fault; fault = Some fault } }
-    ensures told { MessageTold input.now words.now fault (S.meaning shelf.old) (S.meaning shelf.new) }
-{
-    match message(alloc, input, words, &fault) {
-        Ok(text) => shelf.tell(text.as_slice()),
-        Err(_) => shelf.tell(MEMORY_LINE.as_bytes()),
-    }
-    Finish {
-        status: fault.status(),
-        fault: Some(fault),
     }
 }
