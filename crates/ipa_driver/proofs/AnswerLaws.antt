@@ -8,6 +8,7 @@ use Rattle.gimple_ir.specs.declared.program.Program.{Program}
 use Rattle.gimple_core.specs.Sealed.{Sealed}
 use Rattle.gimple_text.proofs.Laws.{spelled_spellable}
 use Rattle.ipa_driver.proofs.SizeLaws.{countable}
+use Rattle.ipa_driver.proofs.LocalLaws.{few_locals}
 use Rattle.ipa_driver.specs.declared.tool.Tool.{Tool}
 use Rattle.ipa_driver.specs.declared.finish.Fault.{Fault}
 use Rattle.ipa_driver.specs.declared.finish.Fault.TheVariants.{Usage, Read, Long, Text, Types, Write, Memory}
@@ -33,6 +34,7 @@ judged words source old new text (Ok checked) l j = record {
   good = fetched (λ bytes. IsVerdict bytes (Good checked.program)) text j old.sources (bytes_of words (input_of source)) l.source;
   spellable = spelled_spellable text checked.program j.spelled;
   countable = countable text checked.program j.spelled j.within;
+  locals = few_locals text checked.program j.spelled j.within;
   read = l.read;
 }
 judged words source old new text (Err (Text f)) l j = fetched (λ bytes. IsVerdict bytes (BadText f)) text j old.sources (bytes_of words (input_of source)) l.source

@@ -2,5 +2,6 @@ pub mod VerdictLaws
 pub mod StoreLaws
 pub mod AnswerLaws
 pub mod SizeLaws
+pub mod LocalLaws
 pub mod MadeLaws
 pub mod WorkLaws

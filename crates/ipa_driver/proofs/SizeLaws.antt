@@ -22,11 +22,11 @@ use Rattle.gimple_text.specs.Parse.{Spells}
 use Rattle.ipa_driver.specs.Verdict.{LIMIT}
 
 module _ {A : Type 0} (S : A → Tokens → Type 0) (m : A → ℕ) (each : (x : A) (ts : Tokens) → S x ts → m x ≤ length ts) where
-  many_size : (xs : List A) (ts : Tokens) → IsMany S xs ts → sum_by m xs ≤ length ts
+  pub many_size : (xs : List A) (ts : Tokens) → IsMany S xs ts → sum_by m xs ≤ length ts
   many_size [] ts h = omega arith
   many_size (x ∷ xs) ts h = omega (arith, sum_by-cons m x xs, each x h.0 h.2, many_size xs h.1 h.3, length-append h.0 h.1, ap length h.4)
 
-counted : {A : Type 0} (xs : List A) → sum_by (λ _. 1) xs ≡ length xs
+pub counted : {A : Type 0} (xs : List A) → sum_by (λ _. 1) xs ≡ length xs
 counted [] = refl
 counted (x ∷ xs) = omega (arith, sum_by-cons (λ _. 1) x xs, counted xs)
 
@@ -83,7 +83,7 @@ tokens_size p ts h = omega (
   simp length-append at (ap length h.6),
 )
 
-lexed_from : (bs : Bytes) (ts : List Token) → LexesFrom bs ts → length ts ≤ length bs
+pub lexed_from : (bs : Bytes) (ts : List Token) → LexesFrom bs ts → length ts ≤ length bs
 lexed_from bs [] h = omega arith
 lexed_from bs (t ∷ ts) h = omega (arith, shorter bs t h.0 h.1, lexed_from (skip false h.0) ts h.2)
 

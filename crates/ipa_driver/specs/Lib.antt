@@ -4,3 +4,4 @@ pub mod Stores
 pub mod Messages
 pub mod Answers
 pub mod Work
+pub mod RunAnswers

@@ -7,6 +7,8 @@ mod load;
 mod message;
 mod outputs;
 mod passes;
+mod run_text;
+mod run_top;
 mod tell;
 mod tool;
 mod top;
@@ -15,7 +17,10 @@ mod verdict;
 pub use finish::{Fault, Finish};
 pub use gimple_text::{Spot, TextFault};
 pub use passes::{Product, pipeline};
+pub use run_top::run_program;
 pub use shelf::{Fail, Fetched, MemoryShelf, Shelf, Stored};
 pub use top::optimise_alone;
 pub use verdict::one_verdict;
-pub use words::{Name, Options, SourceName, UsageFault, read_words};
+pub use words::{
+    Name, Options, RunOptions, SourceName, UsageFault, input_numbers, read_run_words, read_words,
+};

@@ -1,14 +1,11 @@
 -- What a list of words means to `gimple-run`: options, then the input, then input numbers. Words count from 1.
-use Rattle.std.specs.Prelude.{ℕ, ◌+◌, ◌-◌, ◌^◌, List, [], ◌∷◌, length, drop, map, Bool, false, not, is_none, ◌&&◌, ◌==◌, nat_eq, codes, if◌then◌else◌, ℤ, pos, neg_ℤ, unwrap_or, Option, None, Some, Result, Ok, Err}
+use Rattle.std.specs.Prelude.{ℕ, ◌+◌, ◌-◌, ◌^◌, List, [], ◌∷◌, length, drop, map, Bool, false, not, is_none, ◌&&◌, ◌==◌, codes, if◌then◌else◌, ℤ, pos, neg_ℤ, unwrap_or, Option, None, Some, Result, Ok, Err}
 use Rattle.std.specs.Option.{option_map, option_or}
-use Rattle.std.specs.List.{starts_with}
 use Rattle.words.specs.declared.options.Name.TheVariants.{Word}
 use Rattle.words.specs.declared.options.UsageFault.{UsageFault}
 use Rattle.words.specs.declared.run_options.RunOptions.{RunOptions}
 use Rattle.words.specs.Numbers.{limited}
-
-unfoldable pub begins : List ℕ → List ℕ → Bool
-begins text prefix = starts_with nat_eq text prefix
+use Rattle.words.specs.Prefix.{begins}
 
 -- more than a `-`, and begins so
 unfoldable pub is_option : List ℕ → Bool

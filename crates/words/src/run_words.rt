@@ -1,10 +1,11 @@
 //! From words to what is to be run.
 
-ghost use Rattle.std.specs.Prelude.{◌≡◌, ◌≤◌, ◌<◌, ◌^◌, ◌+◌, ◌-◌, length, drop, map, IfOk, IsTrue, pos, neg_ℤ};
-ghost use Rattle.words.specs.RunWords.{begins, is_option, turns_in, integer_of, number_fault, first_from, input_from, run_words_of, number_or_zero, inputs_of};
+ghost use Rattle.std.specs.Prelude.{◌≡◌, ◌≤◌, ◌<◌, ◌^◌, ◌+◌, ◌-◌, length, drop, map, IfOk, pos, neg_ℤ};
+ghost use Rattle.words.specs.RunWords.{is_option, turns_in, integer_of, number_fault, first_from, input_from, run_words_of, number_or_zero, inputs_of};
 
 use crate::numbers::number;
 use crate::options::{Name, UsageFault};
+use crate::prefix::{after, begins};
 use crate::run_options::RunOptions;
 use gimple_ir::{OutOfMemory, Text};
 use std::alloc::Global;
@@ -165,19 +166,4 @@ fn negated(number: u64) -> i64
     ensures { result ≡ neg_ℤ (pos number) }
 {
     (-i128::from(number)) as i64
-}
-
-#[tactic(auto, unfolding(crate::specs::RunWords::begins))]
-fn begins(text: &[u8], prefix: &str) -> bool
-    ensures value { result ≡ begins text.now prefix.now }
-    ensures bound { IsTrue result → length prefix.now ≤ length text.now }
-{
-    text.starts_with(prefix.as_bytes())
-}
-
-fn after(text: &[u8], from: usize) -> &[u8]
-    requires { from ≤ length text.now }
-    ensures { result.now ≡ drop from text.now }
-{
-    &text[from..]
 }

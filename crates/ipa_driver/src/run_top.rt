@@ -1,0 +1,71 @@
+//! The top call of `gimple-run`.
+
+ghost use Rattle.std.specs.Prelude.{◌≡◌, MatchResult, IfOk, IfSome, Some};
+ghost use Rattle.words.specs.declared.options.SourceName.TheVariants.{File};
+ghost use Rattle.words.specs.RunWords.{run_words_of};
+ghost use Rattle.ipa_driver.specs.declared.tool.Tool.TheVariants.{Runner};
+ghost use Rattle.ipa_driver.specs.Answers.{Answer, IsDone, IsMisused, TellsOne, IsComplete, status_of};
+ghost use Rattle.ipa_driver.specs.RunAnswers.{IsRunOutput, CanStoreRun, run_input_bytes};
+ghost use Rattle.ipa_driver.specs.Work.{WorkKeeps, WorkSure};
+
+use crate::finish::{Fault, Finish};
+use crate::load::load;
+use crate::outputs::store_all;
+use crate::run_text::run_outputs;
+use crate::tell::tell;
+use crate::tool::Tool;
+use gimple_core::Text;
+use shelf::Shelf;
+use std::alloc::Global;
+use words::{RunOptions, SourceName, name_bytes, read_run_words};
+
+/// Reads the words, fetches the program, runs it on the input numbers of the words and stores on `-` what it printed
+/// and what it came to; where anything fails, tells one message. It never waits, and always returns.
+pub fn run_program<S: Shelf>(alloc: Global, words: &[Text], shelf: &mut S) -> Finish
+    ensures status { result.status ≡ status_of result.fault }
+    ensures answer { MatchResult (run_words_of words.now)
+        (λ options. Answer words.now (File options.source) (IsRunOutput words.now options) (S.meaning shelf.old) (S.meaning shelf.new) result.fault)
+        (λ fault. IsMisused fault (S.meaning shelf.old) (S.meaning shelf.new) result.fault) }
+    ensures told { IfSome result.fault (λ fault.
+        TellsOne Runner (run_input_bytes words.now) words.now (CanStoreRun words.now (S.meaning shelf.old).sources) fault (S.meaning shelf.old) (S.meaning shelf.new)) }
+    ensures complete { IfOk (run_words_of words.now) (λ options.
+        IsComplete words.now (File options.source) (S.meaning shelf.old) (S.meaning shelf.new) result.fault) }
+{
+    match read_run_words(words) {
+        Ok(options) => match work(alloc, words, &options, shelf) {
+            Ok(()) => Finish {
+                status: 0,
+                fault: None,
+            },
+            Err(fault) => {
+                let input = name_bytes(words, &options.source);
+                tell(alloc, Tool::Runner, input, words, fault, shelf)
+            }
+        },
+        Err(fault) => tell(alloc, Tool::Runner, b"", words, Fault::Usage(fault), shelf),
+    }
+}
+
+/// All that lies between the words and the message.
+fn work<S: Shelf>(
+    alloc: Global,
+    words: &[Text],
+    options: &RunOptions,
+    shelf: &mut S,
+) -> Result<(), Fault>
+    ensures keeps { WorkKeeps (S.meaning shelf.old) (S.meaning shelf.new) }
+    ensures answer { MatchResult result
+        (λ _. IsDone words.now (File options.now.source) (IsRunOutput words.now options.now) (S.meaning shelf.old) (S.meaning shelf.new))
+        (λ fault. Answer words.now (File options.now.source) (IsRunOutput words.now options.now) (S.meaning shelf.old) (S.meaning shelf.new) (Some fault)) }
+    ensures sure { WorkSure words.now (File options.now.source) (IsRunOutput words.now options.now) (S.meaning shelf.old) (S.meaning shelf.new) result }
+{
+    let program = load(alloc, words, &SourceName::File(options.source), shelf)?;
+    let outputs = match run_outputs(alloc, words, options, &program) {
+        Ok(outputs) => outputs,
+        Err(_) => return Err(Fault::Memory),
+    };
+    match store_all(words, &outputs, shelf) {
+        Ok(()) => Ok(()),
+        Err(name) => Err(Fault::Write(name)),
+    }
+}
