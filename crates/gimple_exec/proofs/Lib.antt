@@ -1,6 +1,8 @@
 pub mod AssignedLemmas
 pub mod OrderLemmas
 pub mod SeekLemmas
+pub mod Naming
+pub mod TableLemmas
 pub mod MadeLemmas
 pub mod PlaceLemmas
 pub mod StepLemmas

@@ -1,7 +1,7 @@
 -- What stands in an ordered list, and how it stays ordered.
-use Rattle.std.proofs.Common.{◌≡◌, ◌∙◌, ap, sym, refl, subst, ℕ, zero, suc, ◌+◌, ◌-◌, ◌<◌, ◌≤◌, ◌==◌, nat_lt, if◌then◌else◌, Bool, true, false, List, [], ◌∷◌, ◌++◌, length, get_or, set, take, arith, inl, inr, Option, Some, None}
+use Rattle.std.proofs.Common.{◌≡◌, ◌∙◌, ap, sym, refl, subst, ℕ, zero, suc, ◌+◌, ◌-◌, ◌<◌, ◌≤◌, ◌==◌, nat_lt, if◌then◌else◌, Bool, true, false, List, [], ◌∷◌, ◌++◌, length, get_or, set, take, arith, inl, inr, Some, None}
 use mathlib.Core.Bool.{false≢true}
-use Rattle.std.specs.List.{find, filter}
+use Rattle.std.specs.List.{filter}
 use Rattle.std.specs.List.Sorted.{IsPartitionedBy, IsPartitionPoint}
 use Rattle.std.proofs.lemmas.Bool.{cases_lt, cond_both, ltb-true, ltb-false, lt-ltb}
 use Rattle.std.proofs.lemmas.Bool.Decides.{nat_tests}
@@ -9,7 +9,7 @@ use Rattle.std.proofs.lemmas.List.{get_or_default, get_or_append_left, get_or_pu
 use Rattle.gimple_ir.specs.declared.value.Object.{Object}
 use Rattle.gimple_ir.specs.declared.value.Object.TheVariants.{Global, Local}
 use Rattle.gimple_core.specs.Memory.{same_object}
-use Rattle.gimple_exec.specs.Order.{rank, place, precedes, IsOrdered, Follows, IsSplit, IsLatest}
+use Rattle.gimple_exec.specs.Order.{rank, precedes, IsOrdered, Follows, IsSplit, IsLatest}
 use Rattle.gimple_exec.specs.Places.{IsPlace}
 use Rattle.gimple_exec.proofs.AssignedLemmas.{NoneBefore}
 use Rattle.gimple_exec.proofs.PlaceLemmas.{first_at, place_none}

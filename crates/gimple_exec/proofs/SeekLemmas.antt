@@ -1,8 +1,7 @@
 -- The tests that find a slot and an extent.
-use Rattle.std.proofs.Common.{◌≡◌, ◌∙◌, ap, sym, refl, subst, ℕ, ◌+◌, ◌-◌, ◌<◌, ◌≤◌, ◌==◌, ◌&&◌, Bool, true, false, List, ◌∷◌, [], Option, Some, None, length, get_or, set, take, arith}
+use Rattle.std.proofs.Common.{◌≡◌, ◌∙◌, ap, sym, refl, ℕ, ◌+◌, ◌<◌, ◌≤◌, ◌==◌, ◌&&◌, Bool, true, false, List, ◌∷◌, [], Some, None, length, get_or, set, take, arith}
 use mathlib.Core.Bool.{false≢true}
-use Rattle.std.specs.List.{find, filter, position}
-use Rattle.std.specs.List.Sorted.{IsPartitionPoint}
+use Rattle.std.specs.List.{find, filter}
 use Rattle.std.proofs.lemmas.Bool.Decides.{nat_tests}
 use Rattle.std.proofs.lemmas.List.Quantifiers.{position-Some}
 use Rattle.gimple_ir.specs.declared.scalar.Scalar.{Scalar}
@@ -12,12 +11,12 @@ use Rattle.gimple_ir.specs.declared.value.Object.{Object}
 use Rattle.gimple_ir.specs.declared.value.Object.TheVariants.{Global, Local}
 use Rattle.gimple_core.specs.declared.machine.Extent.{Extent}
 use Rattle.gimple_core.specs.declared.machine.MemorySlot.{MemorySlot}
-use Rattle.gimple_core.specs.Memory.{same_object, same_scalar, is_slot, is_elsewhere, put_slot}
+use Rattle.gimple_core.specs.Memory.{same_object, is_slot, is_elsewhere, put_slot}
 use Rattle.gimple_core.specs.Names.{update_first}
-use Rattle.gimple_exec.specs.Order.{rank, place, precedes, slot_precedes, extent_precedes, IsOrdered, IsSplit, IsLatest}
+use Rattle.gimple_exec.specs.Order.{rank, precedes, slot_precedes, extent_precedes, IsOrdered, IsSplit, IsLatest}
 use Rattle.gimple_exec.specs.Places.{IsFirstAt}
-use Rattle.gimple_exec.proofs.AssignedLemmas.{update_first_at, NoneBefore}
-use Rattle.gimple_exec.proofs.OrderLemmas.{Seeks, refuted, same_is, precedes_self, precedes_next, precedes_rank, ordered_set, filter_front, all_latest}
+use Rattle.gimple_exec.proofs.AssignedLemmas.{update_first_at}
+use Rattle.gimple_exec.proofs.OrderLemmas.{Seeks, refuted, same_is, precedes_self, precedes_next, ordered_set, filter_front, all_latest}
 
 left_of : (a b : Bool) → (a && b) ≡ true → a ≡ true
 left_of true b e = refl

@@ -6,6 +6,7 @@ ghost use Rattle.gimple_core.specs.Run.{Run, runs};
 ghost use Rattle.gimple_exec.specs.Machines.{state_of, IsSound, IsLimited, IsFirst, Starts};
 
 use crate::entry;
+use crate::indexed::Indexed;
 use crate::machine::{Machine, Reach, Stand, function_at, is_bodiless, named_place};
 use crate::memory::Memory;
 use crate::world::World;
@@ -66,10 +67,10 @@ fn start(alloc: Heap, program: &Program, input: &[i64]) -> Result<Option<Machine
 }
 
 /// The run from a machine's state with some transfers, and then up to the one that is too many.
-fn go_on(
+fn take_turns(
     mut machine: Machine,
     alloc: Heap,
-    program: &Program,
+    program: &Indexed<'_>,
     turns: u64,
 ) -> Result<Outcome, OutOfMemory>
     requires sound { IsSound program.now machine }
@@ -91,6 +92,22 @@ fn go_on(
             Ok(Outcome::Going(machine.into_output()))
         }
     }
+}
+
+/// The run from a machine's state.
+fn go_on(
+    machine: Machine,
+    alloc: Heap,
+    program: &Program,
+    turns: u64,
+) -> Result<Outcome, OutOfMemory>
+    requires sound { IsSound program.now machine }
+    requires limits { IsLimited program.now }
+    requires serials { machine.next + turns ≤ 2 ^ 64 }
+    ensures { IfOk result (λ o. o ≡ runs program.now turns (state_of program.now machine)) }
+{
+    let indexed = Indexed::new(alloc, program)?;
+    take_turns(machine, alloc, &indexed, turns)
 }
 
 /// What a checked program has come to on these input numbers after at most `turns` transfers: taken jumps, call entries and

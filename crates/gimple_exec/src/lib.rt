@@ -4,9 +4,12 @@
 mod cells;
 mod entry;
 mod extents;
+mod indexed;
 mod interpreter;
+mod labels;
 mod machine;
 mod memory;
+mod names;
 mod order;
 mod slots;
 mod values;

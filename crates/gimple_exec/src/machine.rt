@@ -9,6 +9,7 @@ ghost use Rattle.gimple_exec.specs.Places.{IsPlace};
 ghost use Rattle.gimple_exec.specs.Machines.{function_of, block_of};
 
 use crate::cells::Cells;
+use crate::indexed::Indexed;
 use crate::world::World;
 use crate::{entry, values};
 use gimple_core::{
@@ -69,15 +70,6 @@ pub fn function_at(program: &Program, k: usize) -> &Function
     &program.functions.as_slice()[k]
 }
 
-/// A block of a program.
-fn block_at(program: &Program, function: usize, block: usize) -> &Block
-    requires function { function < length program.now.functions }
-    requires block { block < length (function_of program.now function).blocks }
-    ensures { result.now ≡ block_of (function_of program.now function) block }
-{
-    &function_at(program, function).blocks.as_slice()[block]
-}
-
 /// The first function of a name.
 fn function_place(functions: &[Function], name: &Text) -> Option<usize>
     ensures { IsPlace (λ f. same_name f.name name.now) functions.now result }
@@ -105,29 +97,16 @@ pub fn is_bodiless(program: &Program, k: usize) -> bool
     function_at(program, k).blocks.is_empty()
 }
 
-/// The first block of a label.
-fn block_place(blocks: &[Block], label: u64) -> Option<usize>
-    ensures { IsPlace (λ b. b.label == label) blocks.now result }
-{
-    for k in 0..blocks.len() {
-        if blocks[k].label == label {
-            return Some(k);
-        }
-    }
-    None
-}
-
 impl Machine {
     ghost use Rattle.gimple_core.specs.Run.{jump, returned, call, cells_made, values_of, value_of, any_number, finish, perform, step, with_locals, walk};
     ghost use Rattle.gimple_core.specs.State.{scope_of};
     ghost use Rattle.gimple_exec.specs.Machines.{state_of, control_of, IsSound, IsLimited, Leads, Arrives, Begins};
 
-    fn jump(&mut self, program: &Program, label: u64) -> Reach
+    fn jump(&mut self, program: &Indexed<'_>, label: u64) -> Reach
         requires { IsSound program.now self.old }
         ensures { Arrives program.now self.old.next result (jump (state_of program.now self.old) label) self.new }
     {
-        let function = &program.functions.as_slice()[self.top.function];
-        match block_place(function.blocks.as_slice(), label) {
+        match program.block_place(self.top.function, label) {
             Some(k) => {
                 self.top.block = k;
                 self.top.index = 0;
@@ -137,7 +116,7 @@ impl Machine {
         }
     }
 
-    fn leave(&mut self, program: &Program, value: Option<Value>) -> Reach
+    fn leave(&mut self, program: &Indexed<'_>, value: Option<Value>) -> Reach
         requires { IsSound program.now self.old }
         ensures { Arrives program.now self.old.next result (returned (state_of program.now self.old) value (state_of program.now self.old).below) self.new }
     {
@@ -155,22 +134,22 @@ impl Machine {
     }
 
     /// A call.
-    fn enter(
+    fn enter<'a>(
         &mut self,
         alloc: Heap,
-        program: &Program,
+        program: &Indexed<'a>,
         to: &Option<Text>,
-        callee: &Text,
+        callee: &'a Text,
         operands: &[Operand],
     ) -> Result<Reach, OutOfMemory>
         requires sound { IsSound program.now self.old }
         requires limits { IsLimited program.now }
         ensures { IfOk result (λ reach. Arrives program.now self.old.next reach (call program.now (record { to = to.now; callee = callee.now; arguments = operands.now }) (state_of program.now self.old)) self.new) }
     {
-        let Some(k) = named_place(program, callee) else {
+        let Some(k) = program.named_place(callee) else {
             return Ok(Reach::Traps(TrapKind::Abort));
         };
-        if is_bodiless(program, k) {
+        if program.is_bodiless(k) {
             return Ok(Reach::Traps(TrapKind::Abort));
         }
         if self.next > u128::from(u64::MAX) {
@@ -178,7 +157,7 @@ impl Machine {
         }
         let cells = self.cells_for(alloc, program, k, operands)?;
         let takes = to.copy()?;
-        self.begin(alloc, program, k, takes, cells)?;
+        self.begin(program, k, takes, cells)?;
         Ok(Reach::Moves)
     }
 
@@ -186,7 +165,7 @@ impl Machine {
     fn cells_for(
         &self,
         alloc: Heap,
-        program: &Program,
+        program: &Indexed<'_>,
         k: usize,
         operands: &[Operand],
     ) -> Result<Cells, OutOfMemory>
@@ -195,23 +174,22 @@ impl Machine {
         requires limits { IsLimited program.now }
         ensures { IfOk result (λ cells. cells ≡ cells_made (function_of program.now k).params (values_of program.now.globals (scope_of (control_of program.now self.now.top)) self.now.world.cells operands.now) 0 ++ cells_made (function_of program.now k).registers [] 0) }
     {
-        let caller = function_at(program, self.top.function);
+        let caller = program.function_at(self.top.function);
         let values = entry::arguments(
             alloc,
-            program.globals.as_slice(),
+            program.globals(),
             caller.locals.as_slice(),
             self.top.serial,
             &self.world.cells,
             operands,
         )?;
-        entry::registers(alloc, function_at(program, k), values.as_slice())
+        entry::registers(alloc, program.function_at(k), values.as_slice())
     }
 
     /// Begins a frame, with its locals.
     fn begin(
         &mut self,
-        alloc: Heap,
-        program: &Program,
+        program: &Indexed<'_>,
         function: usize,
         takes: Option<Text>,
         cells: Cells,
@@ -222,10 +200,7 @@ impl Machine {
         ensures { OnOk result (Begins self.old function takes cells (with_locals program.now.structs self.old.next 0 (function_of program.now function).locals (self.old.world.memory)) self.new) }
     {
         let serial = self.next as u64;
-        let locals = function_at(program, function).locals.as_slice();
-        self.world
-            .memory
-            .add_locals(alloc, program, locals, serial)?;
+        self.world.memory.add_frame(program, function, serial)?;
         let stand = Stand {
             function,
             block: 0,
@@ -241,7 +216,7 @@ impl Machine {
     }
 
     /// The end of a block.
-    fn finish(&mut self, program: &Program, end: &End) -> Reach
+    fn finish(&mut self, program: &Indexed<'_>, end: &End) -> Reach
         requires sound { IsSound program.now self.old }
         requires limits { IsLimited program.now }
         ensures { Arrives program.now self.old.next result (finish program.now.globals end.now (state_of program.now self.old)) self.new }
@@ -276,7 +251,7 @@ impl Machine {
     }
 
     /// The label that a switch leads to.
-    fn chosen(&self, program: &Program, on: &Operand, cases: &Cases, other: u64) -> u64
+    fn chosen(&self, program: &Indexed<'_>, on: &Operand, cases: &Cases, other: u64) -> u64
         requires sound { IsSound program.now self.now }
         requires limits { IsLimited program.now }
         ensures { result ≡ case_for (any_number (value_of program.now.globals (scope_of (control_of program.now self.now.top)) self.now.world.cells on.now)) cases.now other }
@@ -289,12 +264,12 @@ impl Machine {
     }
 
     /// One statement or end.
-    pub fn step(&mut self, alloc: Heap, program: &Program) -> Result<Step, OutOfMemory>
+    pub fn step<'a>(&mut self, alloc: Heap, program: &Indexed<'a>) -> Result<Step, OutOfMemory>
         requires sound { IsSound program.now self.old }
         requires limits { IsLimited program.now }
         ensures { IfOk result (λ next. Leads program.now self.old.next next (step program.now (state_of program.now self.old)) self.new) }
     {
-        let block = block_at(program, self.top.function, self.top.block);
+        let block = program.block_at(self.top.function, self.top.block);
         let _count = block.body.len();
         match block.body.get(self.top.index) {
             None => Ok(Step::Reaches(self.finish(program, &block.end))),
@@ -306,11 +281,11 @@ impl Machine {
     }
 
     /// One statement.
-    fn perform(
+    fn perform<'a>(
         &mut self,
         alloc: Heap,
-        program: &Program,
-        statement: &Stmt,
+        program: &Indexed<'a>,
+        statement: &'a Stmt,
     ) -> Result<Step, OutOfMemory>
         requires sound { IsSound program.now self.old }
         requires limits { IsLimited program.now }
@@ -325,10 +300,10 @@ impl Machine {
             let reach = self.enter(alloc, program, to, callee, arguments.as_slice())?;
             return Ok(Step::Reaches(reach));
         }
-        let function = function_at(program, self.top.function);
+        let function = program.function_at(self.top.function);
         let trap = self.world.act(
             alloc,
-            program.globals.as_slice(),
+            program.globals(),
             function.locals.as_slice(),
             self.top.serial,
             statement,
@@ -340,14 +315,14 @@ impl Machine {
     }
 
     /// The value of an operand in the running frame.
-    fn value(&self, program: &Program, operand: &Operand) -> Value
+    fn value(&self, program: &Indexed<'_>, operand: &Operand) -> Value
         requires sound { IsSound program.now self.now }
         requires limits { IsLimited program.now }
         ensures { result ≡ value_of program.now.globals (scope_of (control_of program.now self.now.top)) self.now.world.cells operand.now }
     {
-        let function = function_at(program, self.top.function);
+        let function = program.function_at(self.top.function);
         values::operand(
-            program.globals.as_slice(),
+            program.globals(),
             function.locals.as_slice(),
             self.top.serial,
             &self.world.cells,
@@ -376,7 +351,7 @@ impl Machine {
     }
 
     /// The statements up to the next transfer.
-    pub fn walk(&mut self, alloc: Heap, program: &Program) -> Result<Reach, OutOfMemory>
+    pub fn walk(&mut self, alloc: Heap, program: &Indexed<'_>) -> Result<Reach, OutOfMemory>
         requires sound { IsSound program.now self.old }
         requires limits { IsLimited program.now }
         ensures { IfOk result (λ reach. Arrives program.now self.old.next reach (walk program.now (state_of program.now self.old).top.rest (state_of program.now self.old)) self.new) }

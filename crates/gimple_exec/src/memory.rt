@@ -8,6 +8,7 @@ ghost use Rattle.gimple_core.specs.Memory.{same_object, is_slot, found_at, found
 ghost use Rattle.gimple_core.specs.Run.{filled, item_value};
 
 use crate::extents::Extents;
+use crate::indexed::{Indexed, local_layouts};
 use crate::slots::Slots;
 use crate::values;
 use gimple_core::{
@@ -128,6 +129,8 @@ impl Model for Memory {
 impl Memory {
     ghost use Rattle.gimple_core.specs.Layout.{HasLayout};
     ghost use Rattle.gimple_core.specs.Memory.{without_frame};
+    ghost use Rattle.gimple_exec.specs.Machines.{function_of, IsLimited};
+    ghost use Rattle.gimple_exec.specs.Tables.{with_layouts};
     ghost use Rattle.gimple_core.specs.Run.{no_memory, with_object, with_locals, with_globals};
 
     /// No objects.
@@ -180,6 +183,20 @@ impl Memory {
         fill(&mut self.slots, object, layout.slots.as_slice(), values)
     }
 
+    fn add_layouts(&mut self, layouts: &[Layout], serial: u64) -> Result<(), OutOfMemory>
+        requires { length layouts.now < 2 ^ 32 }
+        ensures { OnOk result (self.new ≡ with_layouts serial 0 layouts.now self.old) }
+    {
+        for k in 0..layouts.len() {
+            let object = Object::Local {
+                serial,
+                number: k as u32,
+            };
+            self.add_object(object, &layouts[k], false, &[])?;
+        }
+        Ok(())
+    }
+
     /// Adds the locals of a frame.
     pub fn add_locals(
         &mut self,
@@ -192,15 +209,22 @@ impl Memory {
         requires layouts { All (λ d. HasLayout program.now.structs d) locals.now }
         ensures { OnOk result (self.new ≡ with_locals program.now.structs serial 0 locals.now self.old) }
     {
-        for k in 0..locals.len() {
-            let layout = layout_of(alloc, program, &locals[k])?;
-            let object = Object::Local {
-                serial,
-                number: k as u32,
-            };
-            self.add_object(object, &layout, false, &[])?;
-        }
-        Ok(())
+        let layouts = local_layouts(alloc, program, locals)?;
+        self.add_layouts(layouts.as_slice(), serial)
+    }
+
+    /// Adds the locals of a function's frame.
+    pub fn add_frame(
+        &mut self,
+        program: &Indexed<'_>,
+        function: usize,
+        serial: u64,
+    ) -> Result<(), OutOfMemory>
+        requires limits { IsLimited program.now }
+        requires within { function < length program.now.functions }
+        ensures { OnOk result (self.new ≡ with_locals program.now.structs serial 0 (function_of program.now function).locals self.old) }
+    {
+        self.add_layouts(program.layouts(function), serial)
     }
 
     /// Adds the globals of a program.

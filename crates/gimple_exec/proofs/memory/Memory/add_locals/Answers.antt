@@ -1,11 +1,12 @@
-use Rattle.std.proofs.Common.{◌∙◌, sym}
-use Rattle.gimple_exec.proofs.MadeLemmas.{locals_more, locals_all}
+use Rattle.std.proofs.Common.{◌≡◌, ◌∙◌, ap, subst, List, OnOk}
+use Rattle.gimple_ir.specs.declared.value.Layout.{Layout}
+use Rattle.gimple_core.specs.Memory.{Memory}
+use Rattle.gimple_exec.specs.Tables.{with_layouts}
+use Rattle.gimple_exec.proofs.MadeLemmas.{by_layouts}
 use Rattle.gimple_exec.proofs.memory.Memory.add_locals.Goals as goal
-
-pub loop-k-preserved : goal.loop-k-preserved
-loop-k-preserved c =
-    rw (c.in_ok-add_object.ensures, c.in_ok-layout.ensures) (locals_more c.args.program.now.structs c.args.serial c.loop-k.k c.args.locals.now c.loop-k.self c.index-locals-k.result c.loop-k-test.true c.index-locals-k.is ∙ c.loop-k.invariant)
 
 pub returns : goal.returns
 returns c =
-    sym (locals_all c.args.program.now.structs c.args.serial c.loop-k.k c.args.locals.now c.loop-k.self c.loop-k-test.false) ∙ c.loop-k.invariant
+    subst (λ (m : Memory). OnOk c.add_layouts.result (c.add_layouts.new.self ≡ m))
+    (ap (λ (ls : List Layout). with_layouts c.args.serial 0 ls c.args.self.now) (c.as_slice.ensures ∙ c.in_ok-layouts.ensures) ∙ by_layouts c.args.program.now.structs c.args.serial 0 c.args.locals.now c.args.self.now)
+    c.add_layouts.ensures

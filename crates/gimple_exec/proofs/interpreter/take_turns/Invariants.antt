@@ -1,7 +1,7 @@
 use Rattle.std.proofs.Common.{◌≡◌, ◌+◌, ◌-◌, ◌≤◌, ◌^◌}
 use Rattle.gimple_core.specs.Run.{runs}
 use Rattle.gimple_exec.specs.Machines.{state_of, IsSound}
-use Rattle.gimple_exec.proofs.interpreter.go_on.Given as goal
+use Rattle.gimple_exec.proofs.interpreter.take_turns.Given as goal
 
 abbrev pub invariant-loop-turn : goal.invariant-loop-turn
 invariant-loop-turn l = record {

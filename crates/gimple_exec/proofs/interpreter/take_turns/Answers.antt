@@ -6,7 +6,7 @@ use Rattle.gimple_exec.specs.declared.machine.Reach.{Reach}
 use Rattle.gimple_exec.specs.declared.machine.Reach.TheVariants.{Moves, Spent}
 use Rattle.gimple_exec.specs.Machines.{Arrives, state_of}
 use Rattle.gimple_exec.proofs.RunLemmas.{has_ended, has_trapped, moves_on, last_turn, pauses}
-use Rattle.gimple_exec.proofs.interpreter.go_on.Goals as goal
+use Rattle.gimple_exec.proofs.interpreter.take_turns.Goals as goal
 
 pub returns-in-Stops : goal.returns-in-Stops
 returns-in-Stops c =

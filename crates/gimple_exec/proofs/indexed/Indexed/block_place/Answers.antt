@@ -1,0 +1,12 @@
+use Rattle.std.proofs.Common.{sym, subst, ◌<◌, ◌==◌, length}
+use Rattle.gimple_ir.specs.declared.program.Program.{Program}
+use Rattle.gimple_exec.specs.Machines.{function_of}
+use Rattle.gimple_exec.specs.Places.{IsPlace}
+use Rattle.gimple_exec.proofs.TableLemmas.{label_in}
+use Rattle.gimple_exec.proofs.indexed.Indexed.block_place.Goals as goal
+
+pub returns : goal.returns
+returns c =
+    let within = subst (λ (p : Program). c.args.function < length p.functions) (sym c.self.view_is) c.requires in
+    subst (λ (p : Program). IsPlace (λ b. b.label == c.args.label) (function_of p c.args.function).blocks c.place.result) c.self.view_is
+    (label_in c.self.inside.program.now c.self.inside.labels.items c.args.function c.args.label c.index.result.now c.place.result c.self.invariant.labels within c.index.ensures c.place.ensures)

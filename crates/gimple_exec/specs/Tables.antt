@@ -1,0 +1,38 @@
+-- What is found in a program again and again.
+use Rattle.std.specs.Prelude.{◌≡◌, ℕ, ◌+◌, false, List, [], ◌∷◌, map}
+use Rattle.gimple_ir.specs.declared.declarations.Decl.{Decl}
+use Rattle.gimple_ir.specs.declared.declarations.StructDef.{StructDef}
+use Rattle.gimple_ir.specs.declared.value.Layout.{Layout}
+use Rattle.gimple_ir.specs.declared.value.Object.TheVariants.{Local}
+use Rattle.gimple_ir.specs.declared.block.Block.{Block}
+use Rattle.gimple_ir.specs.declared.program.Function.{Function}
+use Rattle.gimple_ir.specs.declared.program.Program.{Program}
+use Rattle.gimple_core.specs.Layout.{layout_of}
+use Rattle.gimple_core.specs.Memory.{Memory}
+use Rattle.gimple_core.specs.Run.{with_object}
+
+abbrev pub names_of : List Function → List (List ℕ)
+names_of fs = map (λ f. f.name) fs
+
+abbrev pub labels_of : List Block → List ℕ
+labels_of bs = map (λ b. b.label) bs
+
+abbrev pub labels_in : List Function → List (List ℕ)
+labels_in fs = map (λ f. labels_of f.blocks) fs
+
+abbrev pub layouts_of : List StructDef → List Decl → List Layout
+layouts_of structs ds = map (layout_of structs) ds
+
+abbrev pub layouts_in : List StructDef → List Function → List (List Layout)
+layouts_in structs fs = map (λ f. layouts_of structs f.locals) fs
+
+-- the tables are those of the program
+pub record IsIndexed (p : Program) (names : List (List ℕ)) (rows : List (List ℕ)) (sizes : List (List Layout)) : Type 0 where
+  pub functions : names ≡ names_of p.functions
+  pub labels : rows ≡ labels_in p.functions
+  pub layouts : sizes ≡ layouts_in p.structs p.functions
+
+-- the memory with a frame's locals of these layouts, from a number on
+unfoldable pub with_layouts : ℕ → ℕ → List Layout → Memory → Memory
+with_layouts serial k [] m = m
+with_layouts serial k (l ∷ ls) m = with_layouts serial (k + 1) ls (with_object m (Local serial k) l false [])
