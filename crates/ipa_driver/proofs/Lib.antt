@@ -3,5 +3,6 @@ pub mod StoreLaws
 pub mod AnswerLaws
 pub mod SizeLaws
 pub mod LocalLaws
+pub mod GraphLaws
 pub mod MadeLaws
 pub mod WorkLaws

@@ -1,4 +1,6 @@
 pub mod Verdict
+pub mod Summary
+pub mod Graph
 pub mod Pipeline
 pub mod Stores
 pub mod Messages

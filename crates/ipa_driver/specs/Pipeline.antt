@@ -1,20 +1,38 @@
 -- What the passes make of a program, and what is promised of it.
-use Rattle.std.specs.Prelude.{◌≡◌, ℕ, ℤ, ◌+◌, ◌*◌, ◌/◌, ◌≤◌, max, List, ◌&&◌, if◌then◌else◌}
+use Rattle.std.specs.Prelude.{◌≡◌, ℕ, ℤ, ◌+◌, ◌*◌, ◌/◌, ◌≤◌, max, List, ◌&&◌, codes, if◌then◌else◌}
 use Rattle.gimple_ir.specs.declared.options.Passes.{Passes}
 use Rattle.gimple_ir.specs.declared.options.Params.{Params}
 use Rattle.gimple_ir.specs.declared.program.Program.{Program}
-use Rattle.gimple_core.specs.Sealed.{IsAccepted}
+use Rattle.gimple_core.specs.Sealed.{Sealed, IsAccepted}
 use Rattle.gimple_core.specs.Size.{size_of_program}
 use Rattle.gimple_core.specs.Reach.{IsWithoutUnreached}
 use Rattle.gimple_core.specs.Run.{Run}
+use Rattle.ipa_dumps.specs.Dumps.{header_text}
 use Rattle.ipa_driver.specs.declared.passes.Product.{Product}
+use Rattle.ipa_driver.specs.Graph.{IsGraphDump}
+use Rattle.ipa_driver.specs.Summary.{measure_of, no_counts, summary_text}
 
--- The row of programs that the passes make, and the last one.
+-- A pass that is not built leaves the program as it is, and its dump has the header alone.
+abbrev pub bare_product : Sealed → List ℕ → List ℕ → Product
+bare_product program cgraph summary = record {
+  program = program;
+  cgraph = cgraph;
+  icf = header_text (codes "icf");
+  cp = header_text (codes "cp");
+  sra = header_text (codes "sra");
+  modref = header_text (codes "modref");
+  summary = summary;
+}
+
+-- The row of programs that the passes make, the last one, and the texts that tell of them.
 pub record IsPipeline (p : Program) (passes : Passes) (params : Params) (product : Product) : Type 0 where
   -- what the passes that may grow a program begin with
   pub entering : Program
   pub reached : IsWithoutUnreached p entering
   pub program : product.program.program ≡ entering
+  pub cgraph : IsGraphDump entering product.cgraph
+  pub others : product ≡ bare_product product.program product.cgraph product.summary
+  pub summary : product.summary ≡ summary_text (measure_of p) (measure_of product.program.program) no_counts
 
 -- What a purse of so many percent allows a program of this size to become. Small programs count as large ones of the least size.
 abbrev pub grown : ℕ → ℕ → ℕ → ℕ

@@ -16,9 +16,21 @@ abbrev pub asked_output : Option Name → List ℕ → List Output
 asked_output None text = []
 asked_output (Some name) text = record { name = name; text = text } ∷ []
 
+-- the dumps of the call graph, of ICF and of IPA-CP, where they were asked for
+unfoldable pub first_outputs : Options → List ℕ → List ℕ → List ℕ → List Output
+first_outputs o cgraph icf cp = asked_output o.cgraph cgraph ++ (asked_output o.icf icf ++ asked_output o.cp cp)
+
+-- the dumps of IPA-SRA and modref, and the summary, where they were asked for
+unfoldable pub last_outputs : Options → List ℕ → List ℕ → List ℕ → List Output
+last_outputs o sra modref summary = asked_output o.sra sra ++ (asked_output o.modref modref ++ asked_output o.summary summary)
+
+abbrev pub all_outputs : Options → Product → List ℕ → List Output
+all_outputs o product text =
+    first_outputs o product.cgraph product.icf product.cp ++ (last_outputs o product.sra product.modref product.summary ++ asked_output (Some o.output) text)
+
 -- what a run stores of what the passes made, in this order
 abbrev pub output_list : Options → Product → List Output
-output_list o product = asked_output (Some o.output) (canon product.program.program)
+output_list o product = all_outputs o product (canon product.program.program)
 
 -- each as its name's bytes and its text
 abbrev pub pairs : List (List ℕ) → List Output → List (List ℕ × List ℕ)

@@ -3,12 +3,14 @@
 
 mod fault_texts;
 mod finish;
+mod graph;
 mod load;
 mod message;
 mod outputs;
 mod passes;
 mod run_text;
 mod run_top;
+mod summary;
 mod tell;
 mod tool;
 mod top;

@@ -3,9 +3,9 @@
 ghost use Rattle.std.specs.Prelude.{◌≡◌, ◌++◌, IfOk, OnOk, MatchResult};
 ghost use Rattle.gimple_text.specs.Canon.{IsSpellable};
 ghost use Rattle.gimple_types.specs.Counts.{IsCountable};
-ghost use Rattle.ipa_driver.specs.Stores.{asked_output, AreOutputs, AreStored, IsStoreFault, StoresOnly, StaysSure};
+ghost use Rattle.ipa_driver.specs.Stores.{asked_output, first_outputs, last_outputs, all_outputs, AreOutputs, AreStored, IsStoreFault, StoresOnly, StaysSure};
 
-use crate::passes::pipeline;
+use crate::passes::{Product, pipeline};
 use gimple_core::{Checked, OutOfMemory, Text};
 use gimple_text::print;
 use shelf::{Shelf, Stored};
@@ -42,8 +42,61 @@ pub fn outputs_of(
     let product = pipeline(alloc, program, &options.passes, &options.params)?;
     let text = print(alloc, product.program.program())?;
     let mut outputs = Vec::new(alloc);
-    ask(&mut outputs, Some(options.output), text)?;
+    ask_all(&mut outputs, options, product, text)?;
     Ok(outputs)
+}
+
+/// Adds the texts that were asked for, the output's text last.
+fn ask_all(
+    outputs: &mut Vec<Output>,
+    options: &Options,
+    product: Product,
+    text: Text,
+) -> Result<(), OutOfMemory>
+    ensures { OnOk result (outputs.new.items ≡ outputs.old.items ++ all_outputs options.now product text) }
+{
+    let Product {
+        cgraph,
+        icf,
+        cp,
+        sra,
+        modref,
+        summary,
+        ..
+    } = product;
+    ask_first(outputs, options, cgraph, icf, cp)?;
+    ask_last(outputs, options, sra, modref, summary)?;
+    ask(outputs, Some(options.output), text)
+}
+
+#[tactic(auto, unfolding(crate::specs::Stores::first_outputs))]
+fn ask_first(
+    outputs: &mut Vec<Output>,
+    options: &Options,
+    cgraph: Text,
+    icf: Text,
+    cp: Text,
+) -> Result<(), OutOfMemory>
+    ensures { OnOk result (outputs.new.items ≡ outputs.old.items ++ first_outputs options.now cgraph icf cp) }
+{
+    ask(outputs, options.cgraph, cgraph)?;
+    ask(outputs, options.icf, icf)?;
+    ask(outputs, options.cp, cp)
+}
+
+#[tactic(auto, unfolding(crate::specs::Stores::last_outputs))]
+fn ask_last(
+    outputs: &mut Vec<Output>,
+    options: &Options,
+    sra: Text,
+    modref: Text,
+    summary: Text,
+) -> Result<(), OutOfMemory>
+    ensures { OnOk result (outputs.new.items ≡ outputs.old.items ++ last_outputs options.now sra modref summary) }
+{
+    ask(outputs, options.sra, sra)?;
+    ask(outputs, options.modref, modref)?;
+    ask(outputs, options.summary, summary)
 }
 
 /// Stores the texts in order, up to the first that fails; an `Err` has its name.

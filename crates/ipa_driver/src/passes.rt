@@ -1,20 +1,30 @@
 //! All passes over a program. Functions that `main` does not reach are dropped.
 
-ghost use Rattle.std.specs.Prelude.{IfOk};
+ghost use Rattle.std.specs.Prelude.{◌≡◌, IfOk};
 ghost use Rattle.gimple_types.specs.Counts.{IsCountable};
-ghost use Rattle.ipa_driver.specs.Pipeline.{IsMade};
+ghost use Rattle.ipa_driver.specs.Pipeline.{IsMade, bare_product};
 
+use crate::graph::graph_dump;
+use crate::summary::{measure_of, no_counts, summary_of};
 use call_graph::drop_unreached;
-use gimple_core::{Checked, OutOfMemory, Params, Passes};
+use gimple_core::{Checked, OutOfMemory, Params, Passes, Text};
+use ipa_dumps::header;
 use std::alloc::Global;
 
-/// What the passes give.
+/// What the passes give: the program, the dump of each pass, and the summary.
 #[derive(Debug, Drop)]
 pub struct Product {
     pub program: Checked,
+    pub cgraph: Text,
+    pub icf: Text,
+    pub cp: Text,
+    pub sra: Text,
+    pub modref: Text,
+    pub summary: Text,
 }
 
 /// Runs the passes that are on, in their order. The answer is want of memory alone.
+#[tactic(auto, using(crate::proofs::GraphLaws::few_functions))]
 pub fn pipeline(
     alloc: Global,
     program: Checked,
@@ -24,6 +34,35 @@ pub fn pipeline(
     requires { IsCountable program.program }
     ensures { IfOk result (λ product. IsMade program.program passes.now params.now product) }
 {
+    let source = measure_of(program.program());
     let program = drop_unreached(alloc, program)?;
-    Ok(Product { program })
+    let cgraph = graph_dump(alloc, &program)?;
+    let output = measure_of(program.program());
+    let summary = summary_of(alloc, &source, &output, &no_counts())?;
+    let product = bare_product(alloc, program, cgraph, summary)?;
+    Ok(product)
+}
+
+/// The product where the passes after the call graph are not built.
+fn bare_product(
+    alloc: Global,
+    program: Checked,
+    cgraph: Text,
+    summary: Text,
+) -> Result<Product, OutOfMemory>
+    ensures { IfOk result (λ product. product ≡ bare_product program cgraph summary) }
+{
+    let icf = header(alloc, "icf")?;
+    let cp = header(alloc, "cp")?;
+    let sra = header(alloc, "sra")?;
+    let modref = header(alloc, "modref")?;
+    Ok(Product {
+        program,
+        cgraph,
+        icf,
+        cp,
+        sra,
+        modref,
+        summary,
+    })
 }

@@ -2,10 +2,14 @@
 #![tactic(auto)]
 
 #[cfg(test)]
+mod dump_rows;
+#[cfg(test)]
 mod first_path;
 #[cfg(test)]
 mod run;
 #[cfg(test)]
 mod text_faults;
+#[cfg(test)]
+mod usage_rows;
 #[cfg(test)]
 mod whole_profile;

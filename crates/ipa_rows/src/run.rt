@@ -15,7 +15,8 @@ pub struct Run {
     pub told: &'static str,
 }
 
-fn words_of(alloc: Global, line: &str) -> Result<Vec<Text>, AllocError> {
+/// The words of a line.
+pub fn words_of(alloc: Global, line: &str) -> Result<Vec<Text>, AllocError> {
     let mut words = Vec::new(alloc);
     for word in line.split_whitespace() {
         words.push(Text::from_bytes(alloc, word.as_bytes())?)?;

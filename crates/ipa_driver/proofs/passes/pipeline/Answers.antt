@@ -1,6 +1,12 @@
-use Rattle.std.proofs.Common.{rules}
+use Rattle.std.proofs.Common.{rules, sym, subst}
+use Rattle.ipa_driver.specs.Pipeline.{IsMade}
 use Rattle.ipa_driver.proofs.MadeLaws.{made}
 use Rattle.ipa_driver.proofs.passes.pipeline.Goals as goal
 
 pub returns : goal.returns
-returns c = made c.args.program.program c.in_ok-program.program c.args.passes.now c.args.params.now (search rules) (search rules) (search rules)
+returns c =
+    let p = c.args.program.program in
+    let passes = c.args.passes.now in
+    let params = c.args.params.now in
+    let all = made p c.in_ok-program.program c.in_ok-cgraph.cgraph c.in_ok-summary.summary passes params (search rules) (search rules) (search rules) (search rules) (search rules) in
+    subst (IsMade p passes params) (sym c.in_ok-product.ensures) all
