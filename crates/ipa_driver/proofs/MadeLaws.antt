@@ -1,5 +1,5 @@
 -- What the passes make of a program may stand for it.
-use Rattle.std.proofs.Common.{◌≡◌, ℕ, List, ◌≤◌, cond, ◌&&◌, refl, sym, subst, arith, le_trans}
+use Rattle.std.proofs.Common.{◌≡◌, ℕ, Bool, List, ◌≤◌, cond, ◌&&◌, refl, sym, subst, arith, le_trans}
 use Rattle.gimple_ir.specs.declared.options.Passes.{Passes}
 use Rattle.gimple_ir.specs.declared.options.Params.{Params}
 use Rattle.gimple_ir.specs.declared.program.Function.{Function}
@@ -13,7 +13,7 @@ use Rattle.gimple_text.specs.Parse.{Spells}
 use Rattle.gimple_text.specs.Canon.{canon, IsSpellable}
 use Rattle.gimple_text.proofs.Laws.{canon_spells, filtered_spellable}
 use Rattle.ipa_driver.specs.declared.passes.Product.{Product}
-use Rattle.ipa_driver.specs.Graph.{IsGraphDump}
+use Rattle.ipa_driver.specs.Graph.{IsGraphText}
 use Rattle.ipa_driver.specs.Summary.{measure_of, no_counts, summary_text}
 use Rattle.ipa_driver.specs.Pipeline.{IsMade, bare_product, bound, grown}
 
@@ -27,9 +27,9 @@ within_bound size passes params =
     let splits = cond passes.sra params.ipa_sra_unit_growth 0 in
     le_trans (grows size large clones) (grows (grown size large clones) large splits)
 
-pub made : (p : Program) (q : Sealed) (cgraph summary : List ℕ) (passes : Passes) (params : Params) → IsAccepted p → IsWithoutUnreached p q.program → size_of_program q.program ≤ size_of_program p → IsGraphDump q.program cgraph
-    → summary ≡ summary_text (measure_of p) (measure_of q.program) no_counts → IsMade p passes params (bare_product q cgraph summary)
-made p q cgraph summary passes params accepted reached shrinks dump counted = record {
+pub made : (p : Program) (q : Sealed) (shows : Bool) (cgraph summary : List ℕ) (passes : Passes) (params : Params) → IsAccepted p → IsWithoutUnreached p q.program → size_of_program q.program ≤ size_of_program p → IsGraphText shows q.program cgraph
+    → summary ≡ summary_text (measure_of p) (measure_of q.program) no_counts → IsMade p shows passes params (bare_product q cgraph summary)
+made p q shows cgraph summary passes params accepted reached shrinks dump counted = record {
   pipeline = record { entering = q.program; reached = reached; program = refl; cgraph = dump; others = refl; summary = counted };
   sound = record {
     accepted = reached_accepted p q.program accepted reached;
@@ -40,7 +40,7 @@ made p q cgraph summary passes params accepted reached shrinks dump counted = re
 }
 
 -- The output's text is its own, where the source has one.
-pub made_spelled : (p : Program) (passes : Passes) (params : Params) (product : Product) → IsSpellable p → IsMade p passes params product → Spells (canon product.program.program) product.program.program
-made_spelled p passes params product h m =
+pub made_spelled : (p : Program) (shows : Bool) (passes : Passes) (params : Params) (product : Product) → IsSpellable p → IsMade p shows passes params product → Spells (canon product.program.program) product.program.program
+made_spelled p shows passes params product h m =
     let e = subst IsSpellable (sym m.pipeline.reached.program) (filtered_spellable p (λ (f : Function). m.pipeline.reached.keeps f.name) h) in
     canon_spells product.program.program (subst IsSpellable (sym m.pipeline.program) e)

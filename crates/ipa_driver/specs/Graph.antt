@@ -1,5 +1,5 @@
 -- The dump of a program's call graph.
-use Rattle.std.specs.Prelude.{◌≡◌, ℕ, List, length}
+use Rattle.std.specs.Prelude.{◌≡◌, ℕ, Bool, true, false, List, [], length}
 use Rattle.gimple_ir.specs.declared.program.Program.{Program}
 use Rattle.call_graph.specs.Calls.{callees_of, edges_of}
 use Rattle.call_graph.specs.Graph.{IsOrder}
@@ -10,3 +10,8 @@ pub record IsGraphDump (p : Program) (text : List ℕ) : Type 0 where
   pub components : List (List ℕ)
   pub order : IsOrder (callees_of p) (length p.functions) components
   pub lines : text ≡ cgraph_text p (record { components = components; edges = edges_of p })
+
+-- the dump where it is asked for; else no text is made
+abbrev pub IsGraphText : Bool → Program → List ℕ → Type 0
+IsGraphText true p text = IsGraphDump p text
+IsGraphText false p text = text ≡ []

@@ -1,5 +1,5 @@
 -- What the passes make of a program, and what is promised of it.
-use Rattle.std.specs.Prelude.{◌≡◌, ℕ, ℤ, ◌+◌, ◌*◌, ◌/◌, ◌≤◌, max, List, ◌&&◌, codes, if◌then◌else◌}
+use Rattle.std.specs.Prelude.{◌≡◌, ℕ, ℤ, ◌+◌, ◌*◌, ◌/◌, ◌≤◌, max, Bool, List, ◌&&◌, codes, if◌then◌else◌}
 use Rattle.gimple_ir.specs.declared.options.Passes.{Passes}
 use Rattle.gimple_ir.specs.declared.options.Params.{Params}
 use Rattle.gimple_ir.specs.declared.program.Program.{Program}
@@ -9,7 +9,7 @@ use Rattle.gimple_core.specs.Reach.{IsWithoutUnreached}
 use Rattle.gimple_core.specs.Run.{Run}
 use Rattle.ipa_dumps.specs.Dumps.{header_text}
 use Rattle.ipa_driver.specs.declared.passes.Product.{Product}
-use Rattle.ipa_driver.specs.Graph.{IsGraphDump}
+use Rattle.ipa_driver.specs.Graph.{IsGraphText}
 use Rattle.ipa_driver.specs.Summary.{measure_of, no_counts, summary_text}
 
 -- A pass that is not built leaves the program as it is, and its dump has the header alone.
@@ -25,12 +25,12 @@ bare_product program cgraph summary = record {
 }
 
 -- The row of programs that the passes make, the last one, and the texts that tell of them.
-pub record IsPipeline (p : Program) (passes : Passes) (params : Params) (product : Product) : Type 0 where
+pub record IsPipeline (p : Program) (shows_graph : Bool) (passes : Passes) (params : Params) (product : Product) : Type 0 where
   -- what the passes that may grow a program begin with
   pub entering : Program
   pub reached : IsWithoutUnreached p entering
   pub program : product.program.program ≡ entering
-  pub cgraph : IsGraphDump entering product.cgraph
+  pub cgraph : IsGraphText shows_graph entering product.cgraph
   pub others : product ≡ bare_product product.program product.cgraph product.summary
   pub summary : product.summary ≡ summary_text (measure_of p) (measure_of product.program.program) no_counts
 
@@ -56,6 +56,6 @@ pub record IsSound (p entering q : Program) (passes : Passes) (params : Params) 
   pub size : size_of_program q ≤ bound (size_of_program entering) passes params
 
 -- all of this of what the passes made
-pub record IsMade (p : Program) (passes : Passes) (params : Params) (product : Product) : Type 0 where
-  pub pipeline : IsPipeline p passes params product
+pub record IsMade (p : Program) (shows_graph : Bool) (passes : Passes) (params : Params) (product : Product) : Type 0 where
+  pub pipeline : IsPipeline p shows_graph passes params product
   pub sound : IsSound p pipeline.entering product.program.program passes params

@@ -1,5 +1,5 @@
 -- What a run stores.
-use Rattle.std.specs.Prelude.{◌≡◌, ◌⊎◌, ℕ, ◌-◌, ◌≤◌, List, [], ◌∷◌, ◌++◌, take, sum_by, Option, None, Some, IfSome, Result, IsOkAnd}
+use Rattle.std.specs.Prelude.{◌≡◌, ◌⊎◌, ℕ, ◌-◌, ◌≤◌, List, [], ◌∷◌, ◌++◌, take, sum_by, is_some, Option, None, Some, IfSome, Result, IsOkAnd}
 use Rattle.std.specs.Option.{option_map}
 use Rattle.shelf.specs.Outside.{Meaning, Contents, put_all, cost_of, Rose}
 use Rattle.words.specs.declared.options.Name.{Name}
@@ -44,7 +44,7 @@ total pairs = sum_by cost_of pairs
 -- All texts of a run on this program: the output's text is its program's own, and the program may stand for the source.
 pub record AreOutputs (o : Options) (p : Program) (outputs : List Output) : Type 0 where
   pub product : Product
-  pub made : IsMade p o.passes o.params product
+  pub made : IsMade p (is_some o.cgraph) o.passes o.params product
   pub spelled : Spells (canon product.program.program) product.program.program
   pub texts : outputs ≡ output_list o product
 

@@ -3,7 +3,7 @@
 ghost use Rattle.std.specs.Prelude.{◌≡◌, ◌<◌, ◌^◌, [], length, slice_index_or, IfOk};
 ghost use Rattle.gimple_core.specs.Size.{size_of_program};
 ghost use Rattle.ipa_dumps.specs.Dumps.{Graph};
-ghost use Rattle.ipa_driver.specs.Graph.{IsGraphDump};
+ghost use Rattle.ipa_driver.specs.Graph.{IsGraphDump, IsGraphText};
 
 use call_graph::{Order, components, edges};
 use gimple_core::{Checked, Edge, Edges, OutOfMemory, Text};
@@ -43,7 +43,7 @@ impl GraphView for CallGraph {
 
 /// The dump of a program's call graph.
 #[tactic(auto, using(crate::proofs::GraphLaws::few_components))]
-pub fn graph_dump(alloc: Global, program: &Checked) -> Result<Text, OutOfMemory>
+fn graph_dump(alloc: Global, program: &Checked) -> Result<Text, OutOfMemory>
     requires few { length program.now.program.functions < 2 ^ 32 }
     requires size { size_of_program program.now.program < 2 ^ 32 }
     ensures { IfOk result (IsGraphDump program.now.program) }
@@ -52,4 +52,17 @@ pub fn graph_dump(alloc: Global, program: &Checked) -> Result<Text, OutOfMemory>
     let calls = edges(alloc, program)?;
     let view = CallGraph { order, calls };
     dump_cgraph(alloc, program, &view)
+}
+
+/// The dump of a program's call graph where it is asked for, else no text.
+pub fn graph_text(alloc: Global, program: &Checked, asked: bool) -> Result<Text, OutOfMemory>
+    requires few { length program.now.program.functions < 2 ^ 32 }
+    requires size { size_of_program program.now.program < 2 ^ 32 }
+    ensures { IfOk result (IsGraphText asked program.now.program) }
+{
+    if asked {
+        graph_dump(alloc, program)
+    } else {
+        Ok(Text::new(alloc))
+    }
 }

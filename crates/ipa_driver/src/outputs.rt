@@ -39,7 +39,14 @@ pub fn outputs_of(
     requires countable { IsCountable program.program }
     ensures { IfOk result (λ outputs. AreOutputs options.now program.program outputs.items) }
 {
-    let product = pipeline(alloc, program, &options.passes, &options.params)?;
+    let shows_graph = options.cgraph.is_some();
+    let product = pipeline(
+        alloc,
+        program,
+        shows_graph,
+        &options.passes,
+        &options.params,
+    )?;
     let text = print(alloc, product.program.program())?;
     let mut outputs = Vec::new(alloc);
     ask_all(&mut outputs, options, product, text)?;

@@ -4,7 +4,7 @@ ghost use Rattle.std.specs.Prelude.{◌≡◌, IfOk};
 ghost use Rattle.gimple_types.specs.Counts.{IsCountable};
 ghost use Rattle.ipa_driver.specs.Pipeline.{IsMade, bare_product};
 
-use crate::graph::graph_dump;
+use crate::graph::graph_text;
 use crate::summary::{measure_of, no_counts, summary_of};
 use call_graph::drop_unreached;
 use gimple_core::{Checked, OutOfMemory, Params, Passes, Text};
@@ -23,20 +23,22 @@ pub struct Product {
     pub summary: Text,
 }
 
-/// Runs the passes that are on, in their order. The answer is want of memory alone.
+/// Runs the passes that are on, in their order. The dump of the call graph is made where it is asked for alone, since its
+/// time grows faster than the program. The answer is want of memory alone.
 #[tactic(auto, using(crate::proofs::GraphLaws::few_functions))]
 pub fn pipeline(
     alloc: Global,
     program: Checked,
+    shows_graph: bool,
     passes: &Passes,
     params: &Params,
 ) -> Result<Product, OutOfMemory>
     requires { IsCountable program.program }
-    ensures { IfOk result (λ product. IsMade program.program passes.now params.now product) }
+    ensures { IfOk result (λ product. IsMade program.program shows_graph passes.now params.now product) }
 {
     let source = measure_of(program.program());
     let program = drop_unreached(alloc, program)?;
-    let cgraph = graph_dump(alloc, &program)?;
+    let cgraph = graph_text(alloc, &program, shows_graph)?;
     let output = measure_of(program.program());
     let summary = summary_of(alloc, &source, &output, &no_counts())?;
     let product = bare_product(alloc, program, cgraph, summary)?;

@@ -8,5 +8,6 @@ returns c =
     let p = c.args.program.program in
     let passes = c.args.passes.now in
     let params = c.args.params.now in
-    let all = made p c.in_ok-program.program c.in_ok-cgraph.cgraph c.in_ok-summary.summary passes params (search rules) (search rules) (search rules) (search rules) (search rules) in
-    subst (IsMade p passes params) (sym c.in_ok-product.ensures) all
+    let shows = c.args.shows_graph in
+    let all = made p c.in_ok-program.program shows c.in_ok-cgraph.cgraph c.in_ok-summary.summary passes params (search rules) (search rules) (search rules) (search rules) (search rules) in
+    subst (IsMade p shows passes params) (sym c.in_ok-product.ensures) all
