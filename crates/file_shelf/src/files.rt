@@ -1,7 +1,7 @@
 //! The shelf of files and standard streams. It counts what fails and what was taken, and tells nothing of what they hold.
 
 ghost use Rattle.std.specs.Prelude.{◌≡◌, ◌≤◌, ◌<◌, ◌^◌, [], None};
-ghost use Rattle.gimple_ipa.specs.Files.{ReadsWhole};
+ghost use Rattle.file_shelf.specs.Files.{ReadsWhole};
 
 use shelf::{Fetched, Shelf, Stored, Text};
 use std::io::{self, Read, Write};

@@ -1,0 +1,37 @@
+//! The words of the command line.
+
+use shelf::Text;
+use std::alloc::{AllocError, AllocFailed};
+use std::env;
+
+/// Why there are no words.
+#[derive(Debug, Drop)]
+pub enum NoWords {
+    /// The platform gives none, as it may where one is not UTF-8.
+    Unreadable,
+    Memory,
+}
+
+impl From<AllocError> for NoWords {
+    fn from(_: AllocError) -> NoWords {
+        NoWords::Memory
+    }
+}
+
+impl<T: Drop> From<AllocFailed<T>> for NoWords {
+    fn from(_: AllocFailed<T>) -> NoWords {
+        NoWords::Memory
+    }
+}
+
+/// The bytes of the program's arguments, without its own name.
+pub fn words(rt: &HostRuntime) -> Result<Vec<Text>, NoWords> {
+    let Ok(arguments) = env::args(rt) else {
+        return Err(NoWords::Unreadable);
+    };
+    let mut words = Vec::new(rt.alloc());
+    for argument in arguments.into_iter().skip(1) {
+        words.push(Text::from_bytes(rt.alloc(), argument.as_bytes())?)?;
+    }
+    Ok(words)
+}
