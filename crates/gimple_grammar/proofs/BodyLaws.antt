@@ -33,7 +33,7 @@ use Rattle.gimple_tokens.specs.declared.token.Symbol.{Symbol}
 use Rattle.gimple_tokens.specs.declared.token.Symbol.TheVariants as s
 use Rattle.gimple_tokens.specs.declared.token.Token.{Token}
 use Rattle.gimple_tokens.specs.declared.token.Token.TheVariants as tok
-use Rattle.token_law.specs.Reading.{Tokens, Parser, ◌>>=◌, ◌>>◌, pure, choose, many, keyed, lookup, one_of, is_some, sees, sees_name, sees_one, not_before, fixed, name, number, one, end_of_text, one_or_more, separated}
+use Rattle.token_law.specs.Reading.{Tokens, Parser, ◌>>=◌, ◌>>◌, pure, choose, many, keyed, lookup, one_of, sees, sees_name, sees_one, not_before, fixed, name, number, one, end_of_text, one_or_more, separated}
 use Rattle.token_law.specs.Languages.{IsMany, IsSeparated}
 use Rattle.token_law.proofs.ReadsExactly.{ReadsExactly, IsHeadTest, IsThen, IsEither, IsPure, Avoids, never, pure_exact, then_exact, choose_exact, recast, widen, front_avoids, bind_ok, ok_parts}
 use Rattle.token_law.proofs.Many.{IsMore, many_exact}

@@ -82,7 +82,7 @@ fn program(alloc: Global, tokens: &mut Cursor<'_>) -> Result<Program, Fault>
 /// The program that the tokens spell.
 ///
 /// Errors: how many tokens are left at the first one with which the tokens before it begin no program, none at an early end; or want of memory.
-pub fn read(alloc: Global, tokens: &[Token]) -> Result<Program, Fault>
+pub fn read<'a>(alloc: Global, tokens: &'a [Token<'a>]) -> Result<Program, Fault>
     // What is read is spelled so.
     ensures found { IfOk result (λ p. IsProgram p tokens.now) }
     // What is spelled so is read, unless memory runs out.
@@ -90,5 +90,5 @@ pub fn read(alloc: Global, tokens: &[Token]) -> Result<Program, Fault>
     // The tokens before the fault begin a program, and with it they do not.
     ensures fault { IfErr result (FaultOf tokens.now) }
 {
-    program(alloc, &mut Cursor::new(tokens))
+    program(alloc, &mut Cursor::new(alloc, tokens))
 }

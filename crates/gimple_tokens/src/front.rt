@@ -10,21 +10,21 @@ use gimple_ir::OutOfMemory;
 use std::alloc::Global;
 
 /// The tokens up to the end or the first byte that begins none, and how many bytes are left from there.
-#[derive(Debug, Drop)]
-pub struct Lexed {
-    pub tokens: Vec<Token>,
+#[derive(Drop)]
+pub struct Lexed<'a> {
+    pub tokens: Vec<Token<'a>>,
     pub left: usize,
 }
 
 /// The tokens up to the end or the first byte that begins none.
 #[tactic(auto, using(crate::proofs::Runs::pushed, crate::proofs::Runs::fronted))]
-pub fn lex_front(alloc: Global, bytes: &[u8]) -> Result<Lexed, OutOfMemory>
+pub fn lex_front<'a>(alloc: Global, bytes: &'a [u8]) -> Result<Lexed<'a>, OutOfMemory>
     ensures { IfOk result (λ x. Front bytes.now x.tokens.items x.left) }
 {
     let mut found = Vec::new(alloc);
     let mut rest = skip(bytes);
     'tokens: while !rest.is_empty() {
-        let (token, after) = match token(alloc, rest)? {
+        let (token, after) = match token(rest) {
             Some(found) => found,
             None => break,
         };

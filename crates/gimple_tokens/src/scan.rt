@@ -1,12 +1,10 @@
 //! The token at the head of bytes.
 
-ghost use Rattle.std.specs.Prelude.{◌≡◌, ◌+◌, ◌*◌, ◌<◌, ◌^◌, false, length, IfOk, Some, option_map};
+ghost use Rattle.std.specs.Prelude.{◌≡◌, ◌+◌, ◌*◌, ◌<◌, ◌^◌, false, length, Some, option_map};
 ghost use Rattle.std.specs.Option.{SomeIff};
 ghost use Rattle.gimple_tokens.specs.Lexing as spec;
 
-use crate::token::{Symbol, Token};
-use gimple_ir::{OutOfMemory, Text};
-use std::alloc::Global;
+use crate::token::{Symbol, Token, Word};
 
 fn is_blank(b: u8) -> bool
     ensures { result ≡ spec.is_blank b }
@@ -310,20 +308,17 @@ pub fn value(digits: &[u8]) -> Option<u64>
     Some(n)
 }
 
-fn word(alloc: Global, bytes: &[u8]) -> Result<(Token, &[u8]), OutOfMemory>
-    ensures { IfOk result (λ x. spec.word_at bytes.now ≡ (x.0, x.1.now)) }
+fn word(bytes: &[u8]) -> (Token<'_>, &[u8])
+    ensures { spec.word_at bytes.now ≡ (result.0, result.1.now) }
 {
     let (text, rest) = split_name(bytes);
     match keyword(text) {
-        Some(symbol) => Ok((Token::Fixed(symbol), rest)),
-        None => {
-            let name = Text::from_bytes(alloc, text)?;
-            Ok((Token::Name(name), rest))
-        }
+        Some(symbol) => (Token::Fixed(symbol), rest),
+        None => (Token::Name(Word::new(text)), rest),
     }
 }
 
-fn number(bytes: &[u8]) -> (Token, &[u8])
+fn number(bytes: &[u8]) -> (Token<'_>, &[u8])
     ensures { spec.number_at bytes.now ≡ (result.0, result.1.now) }
 {
     let (digits, rest) = split_digits(bytes);
@@ -334,21 +329,20 @@ fn number(bytes: &[u8]) -> (Token, &[u8])
 }
 
 // The token that begins the bytes, and the rest; None where none begins.
-pub fn token(alloc: Global, bytes: &[u8]) -> Result<Option<(Token, &[u8])>, OutOfMemory>
-    ensures { IfOk result (λ found. option_map (λ x. spec.pair x.0 x.1.now) found ≡ spec.token_at bytes.now) }
+pub fn token(bytes: &[u8]) -> Option<(Token<'_>, &[u8])>
+    ensures { option_map (λ x. spec.pair x.0 x.1.now) result ≡ spec.token_at bytes.now }
 {
     match bytes {
-        [] => Ok(None),
+        [] => None,
         [b, rest @ ..] => {
             if starts_name(*b) {
-                let (token, rest) = word(alloc, bytes)?;
-                Ok(Some((token, rest)))
+                Some(word(bytes))
             } else if is_digit(*b) {
-                Ok(Some(number(bytes)))
+                Some(number(bytes))
             } else {
                 match mark_at(*b, rest) {
-                    Some((symbol, rest)) => Ok(Some((Token::Fixed(symbol), rest))),
-                    None => Ok(None),
+                    Some((symbol, rest)) => Some((Token::Fixed(symbol), rest)),
+                    None => None,
                 }
             }
         }

@@ -1,6 +1,8 @@
 //! Tokens.
 
-use gimple_ir::Text;
+ghost use Rattle.std.specs.Prelude.{◌≡◌};
+
+use std::marker::Model;
 
 /// The tokens of one spelling: keywords, then marks.
 #[derive(Clone, Copy, Debug, PartialEq, Eq)]
@@ -62,10 +64,40 @@ pub enum Symbol {
     Caret,
 }
 
+/// A name, as it stands in the text.
+#[derive(Drop)]
+pub struct Word<'a> {
+    bytes: &'a [u8],
+}
+
+impl<'a> Model for Word<'a> {
+    ghost use Rattle.std.specs.Prelude.{List, ℕ};
+
+    ghost Value = { List ℕ };
+
+    ghost view = { λ w. w.bytes.now };
+}
+
+impl<'a> Word<'a> {
+    /// The name of these bytes.
+    pub fn new(bytes: &'a [u8]) -> Word<'a>
+        ensures { result ≡ bytes.now }
+    {
+        Word { bytes }
+    }
+
+    /// The bytes of the name.
+    pub fn as_slice(&self) -> &[u8]
+        ensures { result.now ≡ self.now }
+    {
+        self.bytes
+    }
+}
+
 /// A token. `Huge` is a number above 2^64 - 1, which no program has.
-#[derive(Debug, Drop)]
-pub enum Token {
-    Name(Text),
+#[derive(Drop)]
+pub enum Token<'a> {
+    Name(Word<'a>),
     Number(u64),
     Huge,
     Fixed(Symbol),

@@ -1,5 +1,6 @@
 -- Reading from left to right. A reader answers a value and the tokens after it, or how many tokens are left at the fault.
 use Rattle.std.specs.Prelude.{◌≡◌, ℕ, zero, suc, ◌==◌, Bool, true, false, not, if◌then◌else◌, List, [], ◌∷◌, ◌++◌, length, drop, Option, Some, None, Result, Ok, Err}
+use Rattle.std.specs.Option.{is_some}
 use denote.Enum.Bare.{sameb}
 use Rattle.gimple_tokens.specs.declared.token.Symbol.{Symbol}
 use Rattle.gimple_tokens.specs.declared.token.Symbol.TheVariants as s
@@ -97,10 +98,6 @@ lookup key (a ∷ more) y = if sameb the_type y (key a) then Some a else lookup 
 -- reads the symbol of one of these values
 abbrev pub one_of : {A : Type 0} → (A → Symbol) → List A → Parser A
 one_of key all = leaf (of_symbol (lookup key all))
-
-abbrev pub is_some : {A : Type 0} → Option A → Bool
-is_some None = false
-is_some (Some a) = true
 
 -- the symbol of one of these values comes next
 abbrev pub sees_one : {A : Type 0} → (A → Symbol) → List A → Tokens → Bool

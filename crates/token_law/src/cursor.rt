@@ -5,8 +5,9 @@ ghost use Rattle.token_law.specs.Reading as spec;
 ghost use Rattle.token_law.specs.Reading.{Reads};
 ghost use Rattle.token_law.specs.declared.cursor.Fault.TheVariants.{Memory};
 
-use gimple_ir::{Exact, OutOfMemory, Text};
+use gimple_ir::{OutOfMemory, Text};
 use gimple_tokens::{Symbol, Token};
+use std::alloc::Global;
 use std::marker::Model;
 
 /// Why tokens could not be read.
@@ -29,7 +30,8 @@ impl From<OutOfMemory> for Fault {
 /// What is left of the tokens.
 #[derive(Drop)]
 pub struct Cursor<'a> {
-    rest: &'a [Token],
+    rest: &'a [Token<'a>],
+    alloc: Global,
 }
 
 impl<'a> Model for Cursor<'a> {
@@ -42,11 +44,11 @@ impl<'a> Model for Cursor<'a> {
 }
 
 impl<'a> Cursor<'a> {
-    /// At the first of these tokens.
-    pub fn new(rest: &'a [Token]) -> Cursor<'a>
+    /// At the first of these tokens. Names are copied into memory of this allocator.
+    pub fn new(alloc: Global, rest: &'a [Token<'a>]) -> Cursor<'a>
         ensures { result ≡ rest.now }
     {
-        Cursor { rest }
+        Cursor { rest, alloc }
     }
 
     /// How many tokens are left.
@@ -61,8 +63,11 @@ impl<'a> Cursor<'a> {
         ensures { result ≡ spec.next_symbol self.now }
     {
         match self.rest {
-            [Token::Fixed(found), ..] => Some(*found),
-            _ => None,
+            [next, ..] => match next {
+                Token::Fixed(found) => Some(*found),
+                _ => None,
+            },
+            [] => None,
         }
     }
 
@@ -81,8 +86,11 @@ impl<'a> Cursor<'a> {
         ensures { result ≡ spec.sees symbol self.now }
     {
         match self.rest {
-            [Token::Fixed(found), ..] => *found == symbol,
-            _ => false,
+            [next, ..] => match next {
+                Token::Fixed(found) => *found == symbol,
+                _ => false,
+            },
+            [] => false,
         }
     }
 
@@ -112,12 +120,15 @@ impl<'a> Cursor<'a> {
         ensures { Reads (spec.name self.old) result self.new }
     {
         match self.rest {
-            [Token::Name(name), rest @ ..] => {
-                let name = name.copy()?;
-                self.rest = rest;
-                Ok(name)
-            }
-            _ => Err(Fault::At(self.rest.len())),
+            [next, rest @ ..] => match next {
+                Token::Name(name) => {
+                    let name = Text::from_bytes(self.alloc, name.as_slice())?;
+                    self.rest = rest;
+                    Ok(name)
+                }
+                _ => Err(Fault::At(self.rest.len())),
+            },
+            [] => Err(Fault::At(0)),
         }
     }
 
@@ -127,12 +138,15 @@ impl<'a> Cursor<'a> {
         ensures { Reads (spec.number self.old) result self.new }
     {
         match self.rest {
-            [Token::Number(number), rest @ ..] => {
-                let number = *number;
-                self.rest = rest;
-                Ok(number)
-            }
-            _ => Err(Fault::At(self.rest.len())),
+            [next, rest @ ..] => match next {
+                Token::Number(number) => {
+                    let number = *number;
+                    self.rest = rest;
+                    Ok(number)
+                }
+                _ => Err(Fault::At(self.rest.len())),
+            },
+            [] => Err(Fault::At(0)),
         }
     }
 
