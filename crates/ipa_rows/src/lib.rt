@@ -4,6 +4,8 @@
 #[cfg(test)]
 mod dump_rows;
 #[cfg(test)]
+mod fault_orders;
+#[cfg(test)]
 mod first_path;
 #[cfg(test)]
 mod run;

@@ -48,3 +48,12 @@ pub fn is_refused(alloc: Global, source: &[u8], told: &str) -> Result<bool, Allo
     let finish = optimise_alone(alloc, &words, &mut shelf);
     Ok(finish.status == 1 && shelf.told() == told.as_bytes() && shelf.stored(b"b.g").is_none())
 }
+
+/// Whether the run on this source ends with status 0 and no message.
+pub fn is_accepted(alloc: Global, source: &[u8]) -> Result<bool, AllocError> {
+    let mut shelf = MemoryShelf::new(alloc, 100_000, &[])?;
+    shelf.add_source(b"a.g", source)?;
+    let words = words_of(alloc, "a.g -o b.g")?;
+    let finish = optimise_alone(alloc, &words, &mut shelf);
+    Ok(finish.status == 0 && shelf.told().is_empty())
+}
