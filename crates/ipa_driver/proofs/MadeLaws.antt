@@ -30,7 +30,17 @@ within_bound size passes params =
 pub made : (p : Program) (q : Sealed) (shows : Bool) (cgraph summary : List ℕ) (passes : Passes) (params : Params) → IsAccepted p → IsWithoutUnreached p q.program → size_of_program q.program ≤ size_of_program p → IsGraphText shows q.program cgraph
     → summary ≡ summary_text (measure_of p) (measure_of q.program) no_counts → IsMade p shows passes params (bare_product q cgraph summary)
 made p q shows cgraph summary passes params accepted reached shrinks dump counted = record {
-  pipeline = record { entering = q.program; reached = reached; program = refl; cgraph = dump; others = refl; summary = counted };
+  pipeline = record {
+    entering = q.program;
+    reached = reached;
+    program = refl;
+    cgraph = dump;
+    icf = refl;
+    cp = refl;
+    sra = refl;
+    modref = refl;
+    summary = counted;
+  };
   sound = record {
     accepted = reached_accepted p q.program accepted reached;
     runs = reached_runs p q.program reached;

@@ -31,7 +31,10 @@ pub record IsPipeline (p : Program) (shows_graph : Bool) (passes : Passes) (para
   pub reached : IsWithoutUnreached p entering
   pub program : product.program.program ≡ entering
   pub cgraph : IsGraphText shows_graph entering product.cgraph
-  pub others : product ≡ bare_product product.program product.cgraph product.summary
+  pub icf : product.icf ≡ header_text (codes "icf")
+  pub cp : product.cp ≡ header_text (codes "cp")
+  pub sra : product.sra ≡ header_text (codes "sra")
+  pub modref : product.modref ≡ header_text (codes "modref")
   pub summary : product.summary ≡ summary_text (measure_of p) (measure_of product.program.program) no_counts
 
 -- What a purse of so many percent allows a program of this size to become. Small programs count as large ones of the least size.
