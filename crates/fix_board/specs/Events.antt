@@ -1,5 +1,5 @@
 -- Runs of the board, in whatever order the workers' events come.
-use Rattle.std.specs.Prelude.{◌≡◌, ℕ, ◌<◌, Bool, List, [], ◌∷◌}
+use Rattle.std.specs.Prelude.{◌≡◌, ℕ, ◌<◌, ◌⊎◌, Bool, List, [], ◌∷◌}
 use Rattle.fix_engine.specs.Least.{Equations}
 use Rattle.fix_board.specs.Board.{State, IsNext, CanPost, Posts, times_out, after_take, after_back}
 
@@ -18,3 +18,7 @@ Leads fits below joined s (back e) b c = (e < s.edges) × (0 < times_out b e) ×
 abbrev pub Runs : {V : Type 0} → (V → Type 0) → (V → V → Bool) → (V → V → V) → Equations V → List (Event V) → State V → State V → Type 0
 Runs fits below joined s [] b d = b ≡ d
 Runs {V} fits below joined s (event ∷ events) b d = (c : State V) × Leads fits below joined s event b c × Runs fits below joined s events c d
+
+-- exactly one event ends a turn: the flow of the value that was taken is posted, or the edge is given back
+abbrev pub EndsTurn : {V : Type 0} → (V → Type 0) → (V → V → Bool) → (V → V → V) → Equations V → ℕ → V → State V → State V → Type 0
+EndsTurn fits below joined s e from b c = Leads fits below joined s (post e from) b c ⊎ Leads fits below joined s (back e) b c

@@ -3,6 +3,7 @@ ghost use Rattle.fix_engine.specs.Least.{IsLeast, Equations, value_at};
 ghost use Rattle.fix_engine.specs.Solving.{work_left};
 ghost use Rattle.fix_board.specs.Edges.{is_ready};
 ghost use Rattle.fix_board.specs.Board.{State, is_dirty, times_out, dirt, IsNext, IsStart, after_take, after_back, CanPost, Posts, IsKept, AreHome, IsDone};
+ghost use Rattle.fix_board.specs.Events.{EndsTurn};
 
 use crate::edges::EdgeMarks;
 use crate::joining::{join_into, targets_of};
@@ -135,12 +136,16 @@ impl<V: Lattice, K: System<V>> Board<V, K> {
 
 /// What a worker does in one critical section.
 impl<V: Lattice, K: System<V>> Board<V, K> {
-    /// An edge that was taken, and a copy of its source's value.
+    /// An edge that was taken, and a copy of its source's value. After an `Err` the edge was taken and given back.
     pub(crate) fn take_copy(&mut self) -> Result<Option<(u32, V)>, OutOfMemory>
         ensures edge { IfOk result (λ taken. IfSome taken (λ t. IsSomeAnd K.equations (λ s. t.0 < s.edges))) }
         ensures fits { IfOk result (λ taken. IfSome taken (λ t. V.fits K.kind t.1)) }
         ensures taken { IfOk result (λ taken. IfSome taken (λ t. self.new ≡ after_take self.old t.0)) }
+        ensures next { IfOk result (λ taken. IfSome taken (λ t. IsNext self.old t.0)) }
+        ensures value { IfOk result (λ taken. IfSome taken (λ t. IsSomeAnd K.equations (λ s. t.1 ≡ value_at s self.old.values (s.source t.0)))) }
         ensures none { IfOk result (λ taken. IfNone taken (self.new ≡ self.old)) }
+        ensures nothing { IfOk result (λ taken. IfNone taken ((d : ℕ) → d < length self.old.dirty → is_ready self.old.dirty self.old.out d ≡ false)) }
+        ensures err { OnErr result ((e : ℕ) × IsNext self.old e × (self.new ≡ after_back (after_take self.old e) e)) }
     {
         let Some(edge) = self.take() else {
             return Ok(None);
@@ -154,11 +159,16 @@ impl<V: Lattice, K: System<V>> Board<V, K> {
         }
     }
 
-    /// Posts what was found, or gives the edge back where it may not be posted.
+    /// Posts what was found, or gives the edge back where it may not be posted or memory ran out. Nothing changes where the edge
+    /// is not out.
     pub(crate) fn post_or_back(&mut self, edge: u32, from: &V, found: V) -> Result<(), OutOfMemory>
         requires edge { IsSomeAnd K.equations (λ s. edge < s.edges) }
         requires fits { V.fits K.kind from.now }
         requires found { IsSomeAnd K.equations (λ s. found ≡ s.flow edge from.now) }
+        ensures event { 0 < times_out self.old edge → IsSomeAnd K.equations (λ s. EndsTurn (V.fits K.kind) V.below V.joined s edge from.now self.old self.new) }
+        ensures posts { OnOk result (IsSomeAnd K.equations (λ s. CanPost (V.fits K.kind) V.below s self.old edge from.now) → IsSomeAnd K.equations (λ s. Posts V.below V.joined s self.old edge from.now self.new)) }
+        ensures err { OnErr result (self.new ≡ after_back self.old edge) }
+        ensures home { times_out self.old edge ≡ 0 → self.new ≡ self.old }
     {
         if self.may_post(edge, from) {
             return self.post(edge, from, found);

@@ -90,7 +90,9 @@ impl<'a, R: Threads + Wait + Sync, G: Gate + Sync> BoardSolver<'a, R, G> {
     pub fn new(rt: &'a R, workers: u32, gate: &'a G) -> BoardSolver<'a, R, G>
         requires some { 0 < workers }
         requires few { workers ≤ 64 }
-        ensures { result.workers ≡ workers }
+        ensures rt { result.rt.now ≡ rt.now }
+        ensures workers { result.workers ≡ workers }
+        ensures gate { result.gate.now ≡ gate.now }
     {
         BoardSolver { rt, workers, gate }
     }
