@@ -10,6 +10,8 @@ mod first_path;
 #[cfg(test)]
 mod run;
 #[cfg(test)]
+mod running;
+#[cfg(test)]
 mod text_faults;
 #[cfg(test)]
 mod usage_rows;
