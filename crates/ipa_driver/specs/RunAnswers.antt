@@ -1,6 +1,5 @@
 -- What `gimple-run` stores, and when it can.
-use Rattle.std.specs.Prelude.{◌≡◌, ◌<◌, ◌^◌, ℕ, List, [], ◌∷◌, ◌++◌, length, codes, Option, Result, Ok, Err, MatchResult, ⊤}
-use Rattle.std.specs.List.{All}
+use Rattle.std.specs.Prelude.{◌≡◌, ℕ, List, [], ◌∷◌, ◌++◌, codes, Option, Result, Ok, Err, MatchResult, ⊤}
 use Rattle.std.specs.Fmt.{signed_decimal}
 use Rattle.shelf.specs.Outside.{Contents}
 use Rattle.words.specs.declared.options.Name.TheVariants.{Standard}
