@@ -1,0 +1,11 @@
+pub mod Held
+pub mod Operands
+pub mod Stmts
+pub mod Taken
+pub mod Items
+pub mod Solved
+pub mod Points
+pub mod OneRun
+pub mod Always
+pub mod Written
+pub mod Refined

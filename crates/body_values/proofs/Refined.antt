@@ -1,0 +1,52 @@
+-- What the code asks of refined values.
+use Rattle.std.proofs.Common.{◌≡◌, ℕ, ◌+◌, ◌<◌, ℤ, inr, List, [], ◌∷◌, length, drop, get_or, refl, sym, ◌∙◌, ap, subst}
+use Rattle.std.proofs.lemmas.List.{drop_more}
+use Rattle.gimple_ir.specs.declared.scalar.Cmp.TheVariants.{Eq, Ne}
+use Rattle.gimple_ir.specs.declared.statement.Stmt.{Stmt}
+use Rattle.gimple_ir.specs.declared.value.Constant.TheVariants.{Int}
+use Rattle.fix_engine.specs.declared.lifted.Lifted.{Lifted}
+use Rattle.fix_engine.specs.declared.lifted.Lifted.TheVariants.{NotReached, Reached}
+use Rattle.body_values.specs.Constants.{of_constant}
+use Rattle.body_values.specs.Constants.{constant_fits}
+use Rattle.body_values.specs.Bodies.{Body, after_stmt, after_body}
+use Rattle.gimple_ir.specs.declared.scalar.Scalar.{Scalar}
+use Rattle.gimple_ir.specs.declared.scalar.Cmp.{Cmp}
+use Rattle.fix_engine.specs.Lattice.{AreAlike}
+use Rattle.value_domain.specs.declared.abs_val.AbsVal.{AbsVal}
+use Rattle.value_domain.specs.AbsOperators.{refined_of}
+use Rattle.value_domain.specs.Values.{FitsWith, FitsAbsVal, kind_of}
+use Rattle.value_domain.specs.Holding.{MayCompare}
+use Rattle.value_domain.specs.Thresholds.{IsLawful}
+use Rattle.value_domain.proofs.RefineLaws.{refine_fits}
+use Rattle.body_values.specs.declared.scene.Scene.{Scene}
+use Rattle.body_values.specs.Scenes.{IsGoodIn}
+use Rattle.body_values.specs.System.{kind_is}
+
+pub refined_good : (s : Scene) (cmp : Cmp) (scalar : Scalar) (a b v : AbsVal) → IsLawful s.limits.now.ends → MayCompare cmp scalar → IsGoodIn s scalar a → IsGoodIn s scalar b → v ≡ refined_of cmp s.limits.now.ends a b → IsGoodIn s scalar v
+refined_good s cmp scalar a b v law may x y e =
+    let g = refine_fits s.limits.now.size s.limits.now.ends law cmp scalar may a b x.fits x.of y.fits y.of in
+    subst (IsGoodIn s scalar) (sym e) (record { fits = g.0; of = g.1 })
+
+pub are_alike : (s : Scene) (scalar : Scalar) (a b : AbsVal) → IsLawful s.limits.now.ends → IsGoodIn s scalar a → IsGoodIn s scalar b → AreAlike FitsAbsVal a b
+are_alike s scalar a b law x y =
+    let back = sym (kind_is s.limits.now.size s.limits.now.ends law) in
+    (kind_of s.limits.now.size s.limits.now.ends, subst (λ ts. FitsWith s.limits.now.size ts a) back x.fits, subst (λ ts. FitsWith s.limits.now.size ts b) back y.fits)
+
+pub gone : (B : Body) (k i : ℕ) (ss : List Stmt) → after_body B k i ss NotReached ≡ NotReached
+gone B k i [] = refl
+gone B k i (s ∷ ss) = gone B k (i + 1) ss
+
+pub case_good : (s : Scene) (scalar : Scalar) (z : ℤ) (v : AbsVal) → IsLawful s.limits.now.ends → v ≡ of_constant s.limits.now.size s.limits.now.ends scalar (Int z) → IsGoodIn s scalar v
+case_good s scalar z v law e = let g = constant_fits s.limits.now.size s.limits.now.ends law scalar (Int z) in subst (IsGoodIn s scalar) (sym e) (record { fits = g.0; of = g.1 })
+
+pub equality_may : (scalar : Scalar) → MayCompare Ne scalar
+equality_may scalar = inr refl
+
+pub same_may : (scalar : Scalar) → MayCompare Eq scalar
+same_may scalar = inr refl
+
+pub stopped : (B : Body) (k i : ℕ) (body : List Stmt) (x : Stmt) (row : List AbsVal) (e : Lifted (List AbsVal)) → i < length body → x ≡ get_or body i x → after_stmt B k i x row ≡ NotReached → after_body B k i (drop i body) (Reached row) ≡ e → NotReached ≡ e
+stopped B k i body x row e l is stop h =
+    let next : drop i body ≡ x ∷ drop (i + 1) body = drop_more body i x l ∙ ap (λ y. y ∷ drop (i + 1) body) (sym is) in
+    let end : after_body B k i (drop i body) (Reached row) ≡ NotReached = ap (λ ys. after_body B k i ys (Reached row)) next ∙ (ap (after_body B k (i + 1) (drop (i + 1) body)) stop ∙ gone B k (i + 1) (drop (i + 1) body)) in
+    sym end ∙ h

@@ -1,0 +1,99 @@
+-- What the code asks of values.
+use Rattle.std.proofs.Common.{◌≡◌, ℕ, zero, suc, ◌≤◌, ◌==◌, ℤ, pos, negsuc, ◌≤ℤ◌, ◌<ℤ◌, Bool, true, false, cond, ◌&&◌, Option, Some, None, ◌∙◌, inl, inr, List, [], ◌∷◌, length, refl, sym, ap, subst, arith, slice_get, slice_set}
+use Rattle.std.proofs.lemmas.Int.{ints}
+use Rattle.std.specs.Prelude.{MatchBool, ⊤}
+use Rattle.std.specs.List.{find}
+use Rattle.std.proofs.lemmas.Bool.{cases_Bool, eqb-true, eq-eqb}
+use Rattle.gimple_ir.specs.declared.value.LayoutSlot.{LayoutSlot}
+use Rattle.gimple_ir.specs.declared.operand.Base.TheVariants.{Variable}
+use Rattle.gimple_ir.specs.declared.operand.Place.{Place}
+use Rattle.gimple_ir.specs.declared.declarations.Global.{Global}
+use Rattle.gimple_ir.specs.declared.statement.Stmt.{Stmt}
+use Rattle.gimple_core.specs.Names.{same_name}
+use Rattle.fix_engine.specs.declared.lifted.Lifted.TheVariants.{NotReached, Reached}
+use Rattle.gimple_core.specs.Layout.{layout_of}
+use Rattle.body_values.specs.Constants.{of_constant}
+use Rattle.gimple_core.specs.Memory.{same_scalar}
+use Rattle.gimple_core.specs.Statements.{is_slot_at}
+use Rattle.gimple_ir.specs.declared.scalar.Scalar.{Scalar}
+use Rattle.gimple_ir.specs.declared.operand.Operand.{Operand}
+use Rattle.fix_engine.specs.Bools.{both}
+use Rattle.fix_engine.specs.Rows.{Each}
+use Rattle.value_domain.specs.declared.abs_val.AbsVal.{AbsVal}
+use Rattle.value_domain.specs.Values.{FitsWith, abs_val_below}
+use Rattle.value_domain.specs.Thresholds.{IsLawful}
+use Rattle.body_values.specs.declared.scene.Scene.{Scene}
+use Rattle.body_values.specs.Bodies.{Body, operand_value, is_local, item_constant, slot_place, slot_value, constant_slot, item_value, after_stmt}
+use Rattle.body_values.specs.Scenes.{body_in, Fit, IsGoodIn, IsReady}
+use Rattle.body_values.specs.Rows.{LiftedFits, row_below, below_self}
+use Rattle.body_values.specs.Rising.{RowsRise, operand_rises, stmt_rises}
+
+row_self : (most : ℕ) (ts : List ℤ) (row : List AbsVal) → Each (FitsWith most ts) row → row_below row row ≡ true
+row_self most ts [] f = refl
+row_self most ts (a ∷ row) f = both (abs_val_below a a) (row_below row row) (below_self most ts a f.0) (row_self most ts row f.1)
+
+pub rising : (s : Scene) (row : List AbsVal) → Fit s row → RowsRise (body_in s) row row
+rising s row f = record { lower = f; upper = f; below = row_self s.limits.now.size s.limits.now.ends row f.each }
+
+pub good_value : (s : Scene) (row : List AbsVal) (scalar : Scalar) (o : Operand) (v : AbsVal) → IsLawful s.limits.now.ends → Fit s row → v ≡ operand_value (body_in s) row scalar o → IsGoodIn s scalar v
+good_value s row scalar o v law f e =
+    subst (IsGoodIn s scalar) (sym e) (let g = (operand_rises (body_in s) law row row (rising s row f) scalar o).lower in record { fits = g.0; of = g.1 })
+
+pub set_past : (xs : List AbsVal) (n : ℕ) (v : AbsVal) → length xs ≤ n → slice_set xs n v ≡ xs
+set_past [] n v h = refl
+set_past (x ∷ xs) zero v h = absurd (omega (arith, h))
+set_past (x ∷ xs) (suc n) v h = ap (λ ys. x ∷ ys) (set_past xs n v (omega (arith, h)))
+
+-- ---- slots
+
+pub slot_below : (z : ℤ) (scalar : Scalar) (slot : LayoutSlot) → z <ℤ pos 0 → is_slot_at z scalar slot ≡ false
+slot_below (pos n) scalar slot h = absurd (omega (arith, ints, h))
+slot_below (negsuc n) scalar slot h = refl
+
+pub slot_is : (z : ℤ) (scalar : Scalar) (slot : LayoutSlot) (b : Bool) → pos 0 ≤ℤ z → (b ≡ true → pos slot.offset ≡ z) → (pos slot.offset ≡ z → b ≡ true) → (b && same_scalar slot.scalar scalar) ≡ is_slot_at z scalar slot
+slot_is (pos n) scalar slot b h f g = ap (λ c. c && same_scalar slot.scalar scalar) (by b f g)
+  where
+    by : (b : Bool) → (b ≡ true → pos slot.offset ≡ pos n) → (pos slot.offset ≡ pos n → b ≡ true) → b ≡ (slot.offset == n)
+    by true f g = let e : pos slot.offset ≡ pos n = f refl in let m : slot.offset ≡ n = omega (arith, ints, e) in sym (eq-eqb slot.offset n m)
+    by false f g = elim (cases_Bool (slot.offset == n)) [
+      | inl y ↦ let m : slot.offset ≡ n = eqb-true slot.offset n y in let e : false ≡ true = g (ap pos m) in cc
+      | inr y ↦ sym y
+    ]
+slot_is (negsuc n) scalar slot b h f g = absurd (omega (arith, ints, h))
+
+-- ---- items
+
+item_by : (B : Body) (scalar : Scalar) (offset : ℤ) (name : List ℕ) (b : Bool) → b ≡ false → (o : Option Global) → find (λ g. same_name g.decl.name name) B.globals ≡ o →
+    cond b None (constant_slot B scalar offset (find (λ g. same_name g.decl.name name) B.globals)) ≡ constant_slot B scalar offset o
+item_by B scalar offset name true e o f = cc
+item_by B scalar offset name false e o f = ap (constant_slot B scalar offset) f
+
+pub item_is : (B : Body) (scalar : Scalar) (place : Place) (name : List ℕ) → place.base ≡ Variable name → is_local B.locals name ≡ false → (o : Option Global) → find (λ g. same_name g.decl.name name) B.globals ≡ o → item_value B scalar place ≡ constant_slot B scalar place.offset o
+unfolding item_value
+item_is B scalar place name e f o g =
+    ap (λ b. item_value B scalar (record { base = b; offset = place.offset })) e ∙ item_by B scalar place.offset name (is_local B.locals name) f o g
+
+-- ---- statements
+
+after_fits : (s : Scene) (k i : ℕ) (x : Stmt) (row other : List AbsVal) → IsLawful s.limits.now.ends → IsReady s → Fit s row → after_stmt (body_in s) k i x row ≡ Reached other → Fit s other
+after_fits s k i x row other law ready f e =
+    let g : LiftedFits s.limits.now.size s.limits.now.ends (length s.registers.now) (after_stmt (body_in s) k i x row) = (stmt_rises (body_in s) law ready.loads k i x row row (rising s row f)).upper in
+    subst (LiftedFits s.limits.now.size s.limits.now.ends (length s.registers.now)) e g
+
+pub changed_fit : (s : Scene) (k i : ℕ) (x : Stmt) (row other : List AbsVal) (more : Bool) → IsLawful s.limits.now.ends → IsReady s → Fit s row →
+    MatchBool more (after_stmt (body_in s) k i x row ≡ Reached other) (after_stmt (body_in s) k i x row ≡ NotReached) → MatchBool more (Fit s other) ⊤
+changed_fit s k i x row other true law ready f e = after_fits s k i x row other law ready f e
+changed_fit s k i x row other false law ready f e = tt
+
+-- ---- slots of read-only variables
+
+pub slot_none : (B : Body) (scalar : Scalar) (offset : ℤ) (g : Global) (ls : List LayoutSlot) → g.constant ≡ true → ls ≡ (layout_of B.structs g.decl).slots → slot_place ls offset scalar ≡ None → None ≡ constant_slot B scalar offset (Some g)
+slot_none B scalar offset g ls c l e =
+    let f : slot_place (layout_of B.structs g.decl).slots offset scalar ≡ None = ap (λ ys. slot_place ys offset scalar) (sym l) ∙ e in
+    λ i. cond (sym c i) (slot_value B scalar g (sym f i)) None
+
+pub slot_some : (B : Body) (scalar : Scalar) (offset : ℤ) (g : Global) (ls : List LayoutSlot) (n : ℕ) (v : AbsVal) → g.constant ≡ true → ls ≡ (layout_of B.structs g.decl).slots → slot_place ls offset scalar ≡ Some n →
+    v ≡ of_constant B.most B.ends scalar (item_constant B.globals scalar (slice_get g.items n)) → Some v ≡ constant_slot B scalar offset (Some g)
+slot_some B scalar offset g ls n v c l e h =
+    let f : slot_place (layout_of B.structs g.decl).slots offset scalar ≡ Some n = ap (λ ys. slot_place ys offset scalar) (sym l) ∙ e in
+    ap (λ u. Some u) h ∙ (λ i. cond (sym c i) (slot_value B scalar g (sym f i)) None)

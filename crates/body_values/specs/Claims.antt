@@ -1,0 +1,80 @@
+-- What the values of a body promise of its runs.
+use Rattle.std.specs.Prelude.{◌≡◌, ℕ, ◌+◌, ℤ, true, List, [], ◌∷◌, None, IfSome, slice_get, unwrap_or}
+use Rattle.std.specs.List.{list_all}
+use Rattle.gimple_ir.specs.declared.scalar.Scalar.TheVariants.{I64}
+use Rattle.gimple_ir.specs.declared.value.Value.{Value}
+use Rattle.gimple_ir.specs.declared.declarations.Register.{Register}
+use Rattle.gimple_ir.specs.declared.program.Function.{Function}
+use Rattle.gimple_ir.specs.declared.program.Program.{Program}
+use Rattle.gimple_core.specs.declared.machine.Cell.{Cell}
+use Rattle.gimple_core.specs.Operators.{in_scalar}
+use Rattle.gimple_core.specs.State.{zero_of}
+use Rattle.gimple_core.specs.Trace.{Event, Entry, At, Load, Store, Leave, Trace, EachAfter}
+use Rattle.gimple_core.specs.Accepted.{first_fault}
+use Rattle.gimple_claims.specs.Bodies.{Facts as Given, Meets, FactsClaim}
+use Rattle.fix_engine.specs.declared.lifted.Lifted.{Lifted}
+use Rattle.fix_engine.specs.declared.lifted.Lifted.TheVariants.{NotReached, Reached}
+use Rattle.value_domain.specs.declared.abs_val.AbsVal.{AbsVal}
+use Rattle.value_domain.specs.Holding.{Holds}
+use Rattle.value_domain.specs.Thresholds.{IsLawful}
+use Rattle.body_values.specs.declared.facts.Facts.{Facts}
+use Rattle.body_values.specs.Flow.{given_load, body_of, AreValues, values_at}
+use Rattle.body_values.specs.System.{FactsFit}
+
+-- each register holds a value of its abstract value
+abbrev pub RowHolds : List AbsVal → List Cell → Type 0
+RowHolds [] [] = Unit {0}
+RowHolds [] (c ∷ cs) = ⊥
+RowHolds (a ∷ row) [] = ⊥
+RowHolds (a ∷ row) (c ∷ cs) = Holds c.value a × RowHolds row cs
+
+-- the point is reached, and so they do
+abbrev pub FileHolds : Lifted (List AbsVal) → List Cell → Type 0
+FileHolds NotReached cells = ⊥
+FileHolds (Reached row) cells = RowHolds row cells
+
+-- each argument is in its formal's fact; a formal without an argument is zero or null
+abbrev pub FormalsMeet : List Register → List AbsVal → List Value → ℕ → Type 0
+FormalsMeet [] formals arguments k = Unit {0}
+FormalsMeet (r ∷ rs) [] arguments k = Unit {0}
+FormalsMeet (r ∷ rs) (a ∷ formals) arguments k = Holds (unwrap_or (slice_get arguments k) (zero_of r.scalar)) a × FormalsMeet rs formals arguments (k + 1)
+
+-- what the facts say of the arguments, and of the values that loads give
+abbrev pub given_of : ℕ → Function → Facts → Given
+given_of n f facts = record { entry = λ arguments. FormalsMeet f.params facts.formals arguments 0; load = λ k i v. IfSome (given_load facts.loads n k i) (Holds v) }
+
+-- Of one activation of the function, whatever others do: where its arguments and its loads so far meet the facts, it is at
+-- a reached point, and each register is in its value there.
+abbrev pub ValuesClaim : Program → ℕ → Function → Facts → ℕ → List ℤ → List (Lifted (List AbsVal)) → List Event → Event → Type 0
+ValuesClaim p n f facts most ts xs past (Entry serial g arguments m caller) = Unit {0}
+ValuesClaim p n f facts most ts xs past (At c w) = c.function ≡ f → Meets f (given_of n f facts) c.serial past → FileHolds (values_at (body_of p n f facts most ts) f.blocks xs c.block c.index) w.cells
+ValuesClaim p n f facts most ts xs past (Load c scalar object offset v) = Unit {0}
+ValuesClaim p n f facts most ts xs past (Store c scalar object offset v) = Unit {0}
+ValuesClaim p n f facts most ts xs past (Leave serial) = Unit {0}
+
+-- each point at which the function is
+abbrev pub PointsHold : Program → ℕ → Function → Facts → ℕ → List ℤ → List (Lifted (List AbsVal)) → List Event → Event → Type 0
+PointsHold p n f facts most ts xs past (Entry serial g arguments m caller) = Unit {0}
+PointsHold p n f facts most ts xs past (At c w) = c.function ≡ f → FileHolds (values_at (body_of p n f facts most ts) f.blocks xs c.block c.index) w.cells
+PointsHold p n f facts most ts xs past (Load c scalar object offset v) = Unit {0}
+PointsHold p n f facts most ts xs past (Store c scalar object offset v) = Unit {0}
+PointsHold p n f facts most ts xs past (Leave serial) = Unit {0}
+
+-- each event, with what happened before it, of each run on numbers of i64
+abbrev pub InEachRun : Program → (List Event → Event → Type 0) → Type 0
+InEachRun p Q = (input : List ℤ) → list_all (in_scalar I64) input ≡ true → (turns : ℕ) → EachAfter Q [] (Trace p input turns)
+
+-- the values of a function of a program without a type fault, for facts that fit
+pub record Analysed (p : Program) (n : ℕ) (f : Function) (facts : Facts) (most : ℕ) (ts : List ℤ) (xs : List (Lifted (List AbsVal))) : Type 0 where
+  pub accepted : first_fault p ≡ None
+  pub lawful : IsLawful ts
+  pub fit : FactsFit f facts most ts
+  pub values : AreValues p n f facts most ts xs
+
+-- of each activation that meets the facts
+abbrev pub ValuesHold : Type 0
+ValuesHold = (p : Program) (n : ℕ) (f : Function) (facts : Facts) (most : ℕ) (ts : List ℤ) (xs : List (Lifted (List AbsVal))) → Analysed p n f facts most ts xs → InEachRun p (ValuesClaim p n f facts most ts xs)
+
+-- where the facts hold in each run, of each activation
+abbrev pub ValuesHoldAlways : Type 0
+ValuesHoldAlways = (p : Program) (n : ℕ) (f : Function) (facts : Facts) (most : ℕ) (ts : List ℤ) (xs : List (Lifted (List AbsVal))) → Analysed p n f facts most ts xs → InEachRun p (FactsClaim f (given_of n f facts)) → InEachRun p (PointsHold p n f facts most ts xs)

@@ -1,0 +1,48 @@
+-- What the code has of a body.
+use Rattle.std.specs.Prelude.{◌≡◌, ℕ, ◌<◌, ◌^◌, List, length, Some, find}
+use Rattle.gimple_core.specs.Names.{same_name}
+use Rattle.gimple_ir.specs.declared.declarations.Global.{Global}
+use Rattle.gimple_core.specs.Layout.{HasLayout}
+use Rattle.gimple_ir.specs.declared.scalar.Scalar.{Scalar}
+use Rattle.value_domain.specs.Holding.{IsOf}
+use Rattle.value_domain.specs.declared.abs_val.AbsVal.{AbsVal}
+use Rattle.value_domain.specs.Values.{FitsWith}
+use Rattle.body_values.specs.declared.scene.Scene.{Scene}
+use Rattle.body_values.specs.Bodies.{Body}
+use Rattle.body_values.specs.Flow.{given_load}
+use Rattle.body_values.specs.Rows.{RowFits, LiftedFits}
+use Rattle.fix_engine.specs.declared.lifted.Lifted.{Lifted}
+use Rattle.body_values.specs.Rising.{LoadsFit}
+
+abbrev pub body_in : Scene → Body
+body_in s = record {
+  structs = s.program.now.structs;
+  globals = s.program.now.globals;
+  locals = s.locals.now;
+  registers = s.registers.now;
+  most = s.limits.now.size;
+  ends = s.limits.now.ends;
+  loads = given_load s.loads.now s.number;
+}
+
+-- the values of the registers fit
+abbrev pub Fit : Scene → List AbsVal → Type 0
+Fit s row = RowFits s.limits.now.size s.limits.now.ends (length s.registers.now) row
+
+-- a value fits, and is of the scalar
+pub record IsGoodIn (s : Scene) (scalar : Scalar) (a : AbsVal) : Type 0 where
+  pub fits : FitsWith s.limits.now.size s.limits.now.ends a
+  pub of : IsOf scalar a
+
+-- each global has a layout
+abbrev pub KnowsLayouts : Scene → Type 0
+KnowsLayouts s = (name : List ℕ) (g : Global) → find (λ g. same_name g.decl.name name) s.program.now.globals ≡ Some g → HasLayout s.program.now.structs g.decl
+
+-- globals have numbers and layouts, and the facts of loads fit
+pub record IsReady (s : Scene) : Type 0 where
+  pub few : length s.program.now.globals < 2 ^ 32
+  pub layouts : KnowsLayouts s
+  pub loads : LoadsFit (body_in s)
+
+abbrev pub FitsIn : Scene → Lifted (List AbsVal) → Type 0
+FitsIn s x = LiftedFits s.limits.now.size s.limits.now.ends (length s.registers.now) x

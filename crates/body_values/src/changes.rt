@@ -1,0 +1,312 @@
+//! The values after a statement, and after the statements of a block.
+
+ghost use Rattle.std.specs.Prelude.{◌≡◌, ◌<◌, ◌^◌, ◌+◌, length, IfOk, OnOk, MatchBool, ⊤, slice_get, Option, Some, None, find};
+ghost use Rattle.std.specs.Option.{option_copied};
+ghost use Rattle.fix_engine.specs.declared.lifted.Lifted.{Lifted};
+ghost use Rattle.fix_engine.specs.declared.lifted.Lifted.TheVariants.{NotReached, Reached};
+ghost use Rattle.value_domain.specs.Values.{is_none_val};
+ghost use Rattle.body_values.specs.Bodies.{place_of, register_scalar, put_value, brought_or, item_constant, slot_place, slot_value, constant_slot, item_value, load_value, target_of, result_value, is_abort, after_target, after_stmt, after_body};
+ghost use Rattle.body_values.specs.Flow.{is_point, given_load};
+ghost use Rattle.body_values.specs.Scenes.{body_in, Fit, IsGoodIn, IsReady};
+ghost use Rattle.gimple_core.specs.Layout.{HasLayout};
+ghost use Rattle.gimple_core.specs.Memory.{same_scalar};
+ghost use Rattle.gimple_core.specs.Names.{same_name};
+ghost use Rattle.gimple_core.specs.Statements.{is_slot_at};
+
+use crate::facts::LoadFact;
+use crate::scene::{Scene, global_number, is_local_name, offset_of, place_of, pointer, scalar_of};
+use fix_engine::Rows;
+use gimple_core::{
+    Base, Constant, Global as Variable, LayoutSlot, Operand, OutOfMemory, Place, Point, Scalar,
+    Stmt, Text, layout_of, same_name,
+};
+use value_domain::{AbsVal, exactly, into_scalar, top};
+
+fn is_at(point: Point, function: u32, block: u32, index: u32) -> bool
+    ensures { result ≡ is_point point function block index }
+{
+    point.function == function && (point.block == block && point.index == index)
+}
+
+/// The first fact of a point.
+fn fact_at<'a>(loads: &'a [LoadFact], function: u32, block: u32, index: u32) -> Option<&'a AbsVal>
+    ensures { option_copied result ≡ given_load loads.now function block index }
+{
+    match loads
+        .iter()
+        .find(|x| is_at(x.point, function, block, index))
+    {
+        Some(fact) => Some(&fact.value),
+        None => None,
+    }
+}
+
+/// The register that a statement assigns.
+pub fn target(statement: &Stmt) -> Option<&Text>
+    ensures { option_copied result ≡ target_of statement.now }
+{
+    match statement {
+        Stmt::Copy { to, from: _ } => Some(to),
+        Stmt::Arith {
+            to,
+            left: _,
+            op: _,
+            right: _,
+        } => Some(to),
+        Stmt::Compare {
+            to,
+            left: _,
+            cmp: _,
+            right: _,
+        } => Some(to),
+        Stmt::Convert {
+            to,
+            scalar: _,
+            from: _,
+        } => Some(to),
+        Stmt::Load {
+            to,
+            scalar: _,
+            place: _,
+        } => Some(to),
+        Stmt::Call {
+            to: Some(to),
+            callee: _,
+            arguments: _,
+        } => Some(to),
+        Stmt::Get { to } => Some(to),
+        _ => None,
+    }
+}
+
+fn same_scalar(left: Scalar, right: Scalar) -> bool
+    ensures { result ≡ same_scalar left right }
+{
+    left == right
+}
+
+#[tactic(auto, using(crate::proofs::Written::slot_is, crate::proofs::Written::slot_below))]
+fn is_slot(slot: &LayoutSlot, place: &Place, scalar: Scalar) -> bool
+    ensures { result ≡ is_slot_at place.now.offset scalar slot.now }
+{
+    if place.offset < 0 {
+        return false;
+    }
+    i128::from(slot.offset) == place.offset && same_scalar(slot.scalar, scalar)
+}
+
+fn slot_number(slots: &[LayoutSlot], place: &Place, scalar: Scalar) -> Option<usize>
+    ensures { result ≡ slot_place slots.now place.now.offset scalar }
+{
+    slots.iter().position(|slot| is_slot(slot, place, scalar))
+}
+
+fn named_global<'a>(globals: &'a [Variable], name: &Text) -> Option<&'a Variable>
+    ensures { option_copied result ≡ find (λ g. same_name g.decl.name name.now) globals.now }
+{
+    globals.iter().find(|g| same_name(&g.decl.name, name))
+}
+
+fn aborts(statement: &Stmt) -> bool
+    ensures { result ≡ is_abort statement.now }
+{
+    match statement {
+        Stmt::Abort => true,
+        _ => false,
+    }
+}
+
+impl<'a> Scene<'a> {
+    fn given(&self, block: u32, index: u32, scalar: Scalar) -> Result<AbsVal, OutOfMemory>
+        ensures { IfOk result (λ v. v ≡ brought_or scalar (given_load self.now.loads.now self.now.number block index)) }
+    {
+        match fact_at(self.loads, self.number, block, index) {
+            Some(value) => into_scalar(scalar, value),
+            None => Ok(top(scalar)),
+        }
+    }
+
+    fn item_of(&self, scalar: Scalar, item: Option<&Operand>) -> Constant
+        requires few { length self.now.program.now.globals < 2 ^ 32 }
+        ensures { result ≡ item_constant self.now.program.now.globals scalar (option_copied item.entry) }
+    {
+        match item {
+            Some(Operand::Number(value)) => Constant::Int(*value),
+            Some(Operand::Address { variable, offset }) => {
+                match global_number(self.program.globals.as_slice(), variable) {
+                    Some(number) => Constant::Global {
+                        number: number as u32,
+                        offset: offset_of(*offset),
+                    },
+                    None => Constant::Null,
+                }
+            }
+            Some(_) => Constant::Null,
+            None => {
+                if pointer(scalar) {
+                    Constant::Null
+                } else {
+                    Constant::Int(0)
+                }
+            }
+        }
+    }
+
+    fn slot(
+        &self,
+        scalar: Scalar,
+        place: &Place,
+        global: &Variable,
+    ) -> Result<Option<AbsVal>, OutOfMemory>
+        requires few { length self.now.program.now.globals < 2 ^ 32 }
+        requires layout { HasLayout self.now.program.now.structs global.now.decl }
+        ensures { IfOk result (λ v. v ≡ constant_slot (body_in self.now) scalar place.now.offset (Some global.now)) }
+    {
+        if !global.constant {
+            return Ok(None);
+        }
+        let layout = layout_of(self.alloc, self.program, &global.decl)?;
+        match slot_number(layout.slots.as_slice(), place, scalar) {
+            None => Ok(None),
+            Some(number) => {
+                let constant = self.item_of(scalar, global.items.get(number));
+                let value = exactly(self.alloc, scalar, constant, self.limits)?;
+                Ok(Some(value))
+            }
+        }
+    }
+
+    /// What a slot of a read-only variable by name holds.
+    #[tactic(auto, unfolding(crate::specs::Bodies::item_value))]
+    fn item(&self, scalar: Scalar, place: &Place) -> Result<Option<AbsVal>, OutOfMemory>
+        requires ready { IsReady self.now }
+        ensures { IfOk result (λ v. v ≡ item_value (body_in self.now) scalar place.now) }
+    {
+        let Base::Variable(name) = &place.base else {
+            return Ok(None);
+        };
+        if is_local_name(self.locals, name) {
+            return Ok(None);
+        }
+        match named_global(self.program.globals.as_slice(), name) {
+            Some(global) => self.slot(scalar, place, global),
+            None => Ok(None),
+        }
+    }
+
+    fn load(
+        &self,
+        block: u32,
+        index: u32,
+        scalar: Scalar,
+        place: &Place,
+    ) -> Result<AbsVal, OutOfMemory>
+        requires ready { IsReady self.now }
+        ensures { IfOk result (λ v. v ≡ load_value (body_in self.now) block index scalar place.now) }
+    {
+        match self.item(scalar, place)? {
+            Some(value) => Ok(value),
+            None => self.given(block, index, scalar),
+        }
+    }
+
+    /// What a register of a scalar gets from a statement.
+    #[tactic(auto, unfolding(crate::specs::Bodies::result_value))]
+    fn result(
+        &self,
+        block: u32,
+        index: u32,
+        row: &[AbsVal],
+        scalar: Scalar,
+        statement: &Stmt,
+    ) -> Result<AbsVal, OutOfMemory>
+        requires ready { IsReady self.now }
+        requires fit { Fit self.now row.now }
+        ensures { IfOk result (λ v. v ≡ result_value (body_in self.now) block index row.now scalar statement.now) }
+    {
+        match statement {
+            Stmt::Copy { to: _, from } => self.operand(row, scalar, from),
+            Stmt::Arith {
+                to: _,
+                left,
+                op,
+                right,
+            } => self.arithmetic(row, scalar, left, *op, right),
+            Stmt::Compare {
+                to: _,
+                left,
+                cmp,
+                right,
+            } => self.comparison(row, scalar, left, *cmp, right),
+            Stmt::Convert {
+                to: _,
+                scalar: target,
+                from,
+            } => self.conversion(row, *target, from),
+            Stmt::Load {
+                to: _,
+                scalar: from,
+                place,
+            } => self.load(block, index, *from, place),
+            _ => Ok(top(scalar)),
+        }
+    }
+
+    /// Gives a register a value, and says whether the next point is reached.
+    #[tactic(auto, using(crate::proofs::Written::set_past))]
+    pub fn put(&self, row: &mut Rows<AbsVal>, name: &Text, value: AbsVal) -> bool
+        ensures { MatchBool result (put_value self.now.registers.now row.old name.now value ≡ Reached row.new) (put_value self.now.registers.now row.old name.now value ≡ NotReached) }
+    {
+        if value.range.high < value.range.low {
+            return false;
+        }
+        let place = place_of(self.registers, name);
+        if place < row.as_slice().len() {
+            row.set(place, value);
+        }
+        true
+    }
+
+    /// Carries the values through a statement, and says whether the next point is reached.
+    #[tactic(auto, unfolding(crate::specs::Bodies::after_stmt))]
+    fn change(
+        &self,
+        block: u32,
+        index: u32,
+        statement: &Stmt,
+        row: &mut Rows<AbsVal>,
+    ) -> Result<bool, OutOfMemory>
+        requires ready { IsReady self.now }
+        requires fit { Fit self.now row.old }
+        ensures { IfOk result (λ more. MatchBool more (after_stmt (body_in self.now) block index statement.now row.old ≡ Reached row.new) (after_stmt (body_in self.now) block index statement.now row.old ≡ NotReached)) }
+    {
+        if aborts(statement) {
+            return Ok(false);
+        }
+        let Some(to) = target(statement) else {
+            return Ok(true);
+        };
+        let scalar = scalar_of(self.registers, to);
+        let value = self.result(block, index, row.as_slice(), scalar, statement)?;
+        Ok(self.put(row, to, value))
+    }
+
+    /// Carries the values through a statement, and says whether the next point is reached.
+    #[tactic(auto, using(crate::proofs::Written::changed_fit))]
+    pub fn after(
+        &self,
+        block: u32,
+        index: u32,
+        statement: &Stmt,
+        row: &mut Rows<AbsVal>,
+    ) -> Result<bool, OutOfMemory>
+        requires ready { IsReady self.now }
+        requires fit { Fit self.now row.old }
+        ensures after { IfOk result (λ more. MatchBool more (after_stmt (body_in self.now) block index statement.now row.old ≡ Reached row.new) (after_stmt (body_in self.now) block index statement.now row.old ≡ NotReached)) }
+        ensures fit { IfOk result (λ more. MatchBool more (Fit self.now row.new) ⊤) }
+    {
+        self.limits.known();
+        let more = self.change(block, index, statement, row)?;
+        Ok(more)
+    }
+}

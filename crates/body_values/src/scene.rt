@@ -1,0 +1,173 @@
+//! What the values of registers depend on.
+
+ghost use Rattle.std.specs.Prelude.{◌≡◌, ◌<◌, ◌^◌, length, IfOk, IsTrue};
+ghost use Rattle.gimple_core.specs.Names.{same_name};
+ghost use Rattle.gimple_core.specs.Operators.{in_scalar};
+ghost use Rattle.gimple_core.specs.State.{offset_in};
+ghost use Rattle.value_domain.specs.ConstantOperators.{is_pointer};
+ghost use Rattle.body_values.specs.Bodies.{place_of, register_scalar, is_local, global_place, global_value, operand_value};
+ghost use Rattle.body_values.specs.Scenes.{body_in, Fit, IsGoodIn};
+
+use crate::facts::LoadFact;
+use gimple_core::{
+    Constant, Decl, Global as Variable, Operand, OutOfMemory, Program, Register, Scalar, Text,
+    fits, same_name,
+};
+use std::alloc::Global;
+use value_domain::{AbsVal, Thresholds, exactly, into_scalar, top};
+
+/// What the values in a body depend on: the program, the function's locals and registers with the formals first, its
+/// number and facts of its loads, and the thresholds.
+#[derive(Clone, Copy)]
+pub struct Scene<'a> {
+    pub program: &'a Program,
+    pub locals: &'a [Decl],
+    pub registers: &'a [Register],
+    pub loads: &'a [LoadFact],
+    pub number: u32,
+    pub limits: &'a Thresholds,
+    pub alloc: Global,
+}
+
+/// Whether a scalar is `ptr`.
+pub fn pointer(scalar: Scalar) -> bool
+    ensures { result ≡ is_pointer scalar }
+{
+    match scalar {
+        Scalar::Ptr => true,
+        _ => false,
+    }
+}
+
+/// The number of the first register of a name, or how many there are.
+pub fn place_of(registers: &[Register], name: &Text) -> usize
+    ensures { result ≡ place_of registers.now name.now }
+{
+    for place in 0..registers.len() {
+        if same_name(&registers[place].name, name) {
+            return place;
+        }
+    }
+    registers.len()
+}
+
+/// The scalar of the first register of a name; of no register it is `ptr`.
+pub fn scalar_of(registers: &[Register], name: &Text) -> Scalar
+    ensures { result ≡ register_scalar registers.now name.now }
+{
+    let place = place_of(registers, name);
+    if place < registers.len() {
+        registers[place].scalar
+    } else {
+        Scalar::Ptr
+    }
+}
+
+/// An offset as it is read.
+#[tactic(auto, unfolding(gimple_core::specs::State::number_in))]
+fn inside(offset: i128) -> i128
+    ensures value { result ≡ offset_in offset }
+    ensures fits { IsTrue (in_scalar Scalar.I64 result) }
+{
+    if fits(Scalar::I64, offset) { offset } else { 0 }
+}
+
+/// An offset as a number of i64.
+pub fn offset_of(offset: i128) -> i64
+    ensures { result ≡ offset_in offset }
+{
+    inside(offset) as i64
+}
+
+/// Whether a local has the name.
+pub fn is_local_name(locals: &[Decl], name: &Text) -> bool
+    ensures { result ≡ is_local locals.now name.now }
+{
+    locals.iter().any(|d| same_name(&d.name, name))
+}
+
+/// The number of the first global of a name.
+pub fn global_number(globals: &[Variable], name: &Text) -> Option<usize>
+    ensures { result ≡ global_place globals.now name.now }
+{
+    globals.iter().position(|g| same_name(&g.decl.name, name))
+}
+
+impl<'a> Scene<'a> {
+    fn address(&self, scalar: Scalar, variable: &Text, offset: i128) -> Result<AbsVal, OutOfMemory>
+        requires few { length self.now.program.now.globals < 2 ^ 32 }
+        ensures { IfOk result (λ v. v ≡ global_value (body_in self.now) scalar (global_place self.now.program.now.globals variable.now) offset) }
+    {
+        match global_number(self.program.globals.as_slice(), variable) {
+            None => Ok(top(scalar)),
+            Some(number) => exactly(
+                self.alloc,
+                scalar,
+                Constant::Global {
+                    number: number as u32,
+                    offset: offset_of(offset),
+                },
+                self.limits,
+            ),
+        }
+    }
+
+    /// The value of a register among these, brought into a scalar.
+    #[tactic(auto, unfolding(crate::specs::Bodies::operand_value))]
+    pub fn register(
+        &self,
+        row: &[AbsVal],
+        scalar: Scalar,
+        name: &Text,
+    ) -> Result<AbsVal, OutOfMemory>
+        ensures { IfOk result (λ v. v ≡ operand_value (body_in self.now) row.now scalar (Operand.Reg name.now)) }
+    {
+        match row.get(place_of(self.registers, name)) {
+            Some(value) => into_scalar(scalar, value),
+            None => Ok(top(scalar)),
+        }
+    }
+
+    #[tactic(auto, unfolding(crate::specs::Bodies::operand_value))]
+    fn value_of(
+        &self,
+        row: &[AbsVal],
+        scalar: Scalar,
+        operand: &Operand,
+    ) -> Result<AbsVal, OutOfMemory>
+        requires few { length self.now.program.now.globals < 2 ^ 32 }
+        ensures { IfOk result (λ v. v ≡ operand_value (body_in self.now) row.now scalar operand.now) }
+    {
+        match operand {
+            Operand::Reg(name) => self.register(row, scalar, name),
+            Operand::Number(value) => {
+                exactly(self.alloc, scalar, Constant::Int(*value), self.limits)
+            }
+            Operand::Null => exactly(self.alloc, scalar, Constant::Null, self.limits),
+            Operand::Address { variable, offset } => {
+                if is_local_name(self.locals, variable) {
+                    return Ok(top(scalar));
+                }
+                self.address(scalar, variable, *offset)
+            }
+        }
+    }
+
+    /// The value of an operand as one of a scalar.
+    #[tactic(auto, using(crate::proofs::Written::good_value))]
+    pub fn operand(
+        &self,
+        row: &[AbsVal],
+        scalar: Scalar,
+        operand: &Operand,
+    ) -> Result<AbsVal, OutOfMemory>
+        requires few { length self.now.program.now.globals < 2 ^ 32 }
+        requires fit { Fit self.now row.now }
+        ensures value { IfOk result (λ v. v ≡ operand_value (body_in self.now) row.now scalar operand.now) }
+        ensures good { IfOk result (IsGoodIn self.now scalar) }
+    {
+        self.limits.known();
+        let value = self.value_of(row, scalar, operand)?;
+        Ok(value)
+    }
+}
