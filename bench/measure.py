@@ -170,12 +170,24 @@ def runs(tool, folder, turns):
             before = seconds
 
 
+def solver(tool, counts):
+    """The solver in order on graphs through which truth flows; the program prints how often a value flowed."""
+    for shape in ("chain", "reversed", "random"):
+        before = 0
+        for count in counts:
+            seconds, peak, status = measured([tool, shape, str(count)])
+            assert status == 0, (shape, status)
+            row(f"{shape}, {count} nodes", count, "nodes/s", seconds, peak, before)
+            before = seconds
+
+
 def main():
     top, words = sys.argv[1], sys.argv[2:]
     quick = "--quick" in words
     tools = [word for word in words if word != "--quick"]
     optimiser = tools[0] if tools else os.path.join(top, "bin", "gimple-ipa")
     runner = tools[1] if len(tools) > 1 else os.path.join(top, "bin", "gimple-run")
+    engine = tools[2] if len(tools) > 2 else os.path.join(top, "crates", "bench_engine", "out", "bench_engine")
     print(f"{os.cpu_count()} processors")
     print(f"{'what':32} {'time':>10} {'speed':>25} {'peak':>11} growth")
     with tempfile.TemporaryDirectory() as folder:
@@ -183,6 +195,8 @@ def main():
         generated(optimiser, folder, (256, 512) if quick else (256, 1024, 4096, 16384, 65536))
         if os.path.exists(runner):
             runs(runner, folder, (100000, 200000) if quick else (1000000, 2000000))
+        if os.path.exists(engine):
+            solver(engine, (5000, 10000) if quick else (25000, 50000, 100000))
 
 
 main()
