@@ -6,3 +6,4 @@ pub mod Rising
 pub mod System
 pub mod Claims
 pub mod Scenes
+pub mod Fitting
