@@ -9,3 +9,4 @@ pub mod OneRun
 pub mod Always
 pub mod Written
 pub mod Refined
+pub mod Flowing

@@ -1,6 +1,6 @@
 -- Whether values fit, as a test: a fact that a value of a type may carry.
-use Rattle.std.specs.Prelude.{◌≡◌, ℕ, ◌==◌, ◌^◌, ◌<◌, nat_le, nat_lt, ℤ, pos, int_le, ◌≤ℤ◌, Bool, true, false, ◌&&◌, cond, if◌then◌else◌, bit_and, List, [], ◌∷◌, length, Option, Some, None, IfSome, refl}
-use Rattle.std.proofs.Common.{inl, inr, sym, ◌∙◌, ap, subst, arith}
+use Rattle.std.specs.Prelude.{◌≡◌, ℕ, ◌==◌, ◌^◌, ◌<◌, nat_le, nat_lt, ℤ, pos, int_le, Bool, true, false, ◌&&◌, cond, if◌then◌else◌, bit_and, List, [], ◌∷◌, length, refl}
+use Rattle.std.proofs.Common.{inl, inr, ap, arith}
 use Rattle.std.proofs.lemmas.Int.{ints}
 use Rattle.std.proofs.lemmas.Bool.{eqb-true, eq-eqb, leb-true, le-leb, ltb-true, lt-ltb}
 use Rattle.gimple_ir.specs.declared.value.Constant.{Constant}
@@ -8,7 +8,7 @@ use Rattle.fix_engine.specs.Bools.{and_left, and_right, both}
 use Rattle.fix_engine.specs.Rows.{Each}
 use Rattle.fix_engine.specs.declared.lifted.Lifted.{Lifted}
 use Rattle.fix_engine.specs.declared.lifted.Lifted.TheVariants.{NotReached, Reached}
-use Rattle.lattice_parts.specs.Sets.{Has, Above, Ascending, has_by}
+use Rattle.lattice_parts.specs.Sets.{Above, Ascending, has_by}
 use Rattle.lattice_parts.specs.SetLemmas.{has_is, is_has}
 use Rattle.value_domain.specs.declared.bits.Bits.{Bits}
 use Rattle.value_domain.specs.declared.range.Range.{Range}
@@ -22,7 +22,7 @@ use Rattle.value_domain.specs.Bitmasks.{FitsBits}
 use Rattle.value_domain.specs.Ranges.{FitsRange, is_bare}
 use Rattle.value_domain.specs.FitLemmas.{le_tells}
 use Rattle.value_domain.specs.Values.{FitsVals, FitsWith, parts_of, none_val}
-use Rattle.body_values.specs.Rows.{RowFits, LiftedFits}
+use Rattle.body_values.specs.Rows.{LiftedFits}
 
 -- ---- the parts
 

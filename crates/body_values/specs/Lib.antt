@@ -7,3 +7,4 @@ pub mod System
 pub mod Claims
 pub mod Scenes
 pub mod Fitting
+pub mod Ready

@@ -156,7 +156,7 @@ fact_by : (P : AbsVal → Type 0) (b : Bool) (x : LoadFact) (o : Option LoadFact
 fact_by P true x o h g = h
 fact_by P false x o h g = g
 
-given_fits : (P : AbsVal → Type 0) (loads : List LoadFact) (n k i : ℕ) → Each (λ x. P x.value) loads → IfSome (given_load loads n k i) P
+pub given_fits : (P : AbsVal → Type 0) (loads : List LoadFact) (n k i : ℕ) → Each (λ x. P x.value) loads → IfSome (given_load loads n k i) P
 given_fits P [] n k i h = tt
 given_fits P (x ∷ loads) n k i h = fact_by P (is_point x.point n k i) x _ h.0 (given_fits P loads n k i h.1)
 

@@ -5,6 +5,7 @@ mod branches;
 mod changes;
 mod ends;
 mod facts;
+mod flow;
 mod laws;
 mod scene;
 mod transfer;

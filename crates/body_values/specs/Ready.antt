@@ -1,0 +1,55 @@
+-- What a flow of values carries as facts, and what follows.
+use Rattle.std.specs.Prelude.{◌≡◌, ℕ, ◌<◌, ◌^◌, ℤ, Bool, true, ◌&&◌, List, [], ◌∷◌, length, slice_get, Some}
+use Rattle.std.proofs.Common.{sym, subst}
+use Rattle.gimple_ir.specs.declared.block.Block.{Block}
+use Rattle.fix_engine.specs.Bools.{and_left, and_right}
+use Rattle.fix_engine.specs.Rows.{Each, FitsRows, rows_below}
+use Rattle.fix_engine.specs.Lifted.{FitsLifted, lifted_below}
+use Rattle.fix_engine.specs.Least.{FlowLaws}
+use Rattle.fix_engine.specs.declared.lifted.Lifted.{Lifted}
+use Rattle.value_domain.specs.declared.abs_val.AbsVal.{AbsVal}
+use Rattle.value_domain.specs.Values.{FitsWith, FitsAbsVal, abs_val_below, kind_of}
+use Rattle.value_domain.specs.Thresholds.{IsLawful, thresholds_list}
+use Rattle.value_domain.proofs.LawfulLemmas.{list_lawful}
+use Rattle.body_values.specs.declared.facts.LoadFact.{LoadFact}
+use Rattle.body_values.specs.declared.scene.Scene.{Scene}
+use Rattle.body_values.specs.Flow.{equations_of}
+use Rattle.body_values.specs.System.{given_fits, flow_laws}
+use Rattle.body_values.specs.Fitting.{fits_by, fits_is, file_by, file_is}
+use Rattle.body_values.specs.Scenes.{body_in, KnowsLayouts, IsReady}
+
+-- whether what is given of loads fits
+abbrev pub loads_by : ℕ → List ℤ → List LoadFact → Bool
+loads_by most ts [] = true
+loads_by most ts (x ∷ loads) = fits_by most ts x.value && loads_by most ts loads
+
+loads_are : (most : ℕ) (ts : List ℤ) (loads : List LoadFact) → loads_by most ts loads ≡ true → Each (λ x. FitsWith most ts x.value) loads
+loads_are most ts [] h = tt
+loads_are most ts (x ∷ loads) h = (fits_is most ts x.value (and_left (fits_by most ts x.value) (loads_by most ts loads) h), loads_are most ts loads (and_right (fits_by most ts x.value) (loads_by most ts loads) h))
+
+-- globals have numbers and layouts, the thresholds are the program's, and the facts of loads fit
+pub record Carried (s : Scene) : Type 0 where
+  pub few : length s.program.now.globals < 2 ^ 32
+  pub layouts : KnowsLayouts s
+  pub ends : s.limits.now.ends ≡ thresholds_list s.program.now
+  pub loads : loads_by s.limits.now.size s.limits.now.ends s.loads.now ≡ true
+
+pub lawful_of : (s : Scene) → Carried s → IsLawful s.limits.now.ends
+lawful_of s c = subst IsLawful (sym c.ends) (list_lawful s.program.now)
+
+pub ready_of : (s : Scene) → Carried s → IsReady s
+ready_of s c = record {
+  few = c.few;
+  layouts = c.layouts;
+  loads = λ k i. given_fits (FitsWith s.limits.now.size s.limits.now.ends) s.loads.now s.number k i (loads_are s.limits.now.size s.limits.now.ends s.loads.now c.loads);
+}
+
+pub carried_laws : (s : Scene) (blocks : List Block) (entry : Lifted (List AbsVal)) → Carried s → file_by s.limits.now.size s.limits.now.ends (length s.registers.now) entry ≡ true →
+    FlowLaws (FitsLifted (FitsRows FitsAbsVal) (length s.registers.now ∷ kind_of s.limits.now.size s.limits.now.ends)) (lifted_below (rows_below abs_val_below)) (equations_of (body_in s) blocks entry)
+carried_laws s blocks entry c h = flow_laws (body_in s) (lawful_of s c) (ready_of s c).loads blocks entry (file_is s.limits.now.size s.limits.now.ends (length s.registers.now) entry h)
+
+-- blocks, their statements and branches have numbers
+pub record AreFew (blocks : List Block) (branches : ℕ) : Type 0 where
+  pub blocks_few : length blocks < 2 ^ 32
+  pub branches_few : branches < 2 ^ 32
+  pub bodies_few : (k : ℕ) (b : Block) → slice_get blocks k ≡ Some b → length b.body < 2 ^ 32
