@@ -1,0 +1,2 @@
+//! The known constants of a function put into its body.
+#![tactic(auto)]
