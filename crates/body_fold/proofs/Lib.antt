@@ -1,1 +1,3 @@
 pub mod Constants
+pub mod Known
+pub mod Operands
