@@ -1,3 +1,3 @@
 pub mod Constants
 pub mod Known
-pub mod Operands
+pub mod Statements

@@ -205,14 +205,15 @@ with_operands S row scalar (Get to) = Get to
 with_operands S row scalar (Put from) = Put (folded_operand S row (check.printed S.env) from)
 with_operands S row scalar Abort = Abort
 
+-- the constant put into the register, where it passes the check, else the other statement
+abbrev pub copy_or : (Operand → Verdict (Unit {0})) → List ℕ → Stmt → Option Operand → Stmt
+copy_or check to y None = y
+copy_or check to y (Some c) = if passes (check c) then Copy to c else y
+
 -- a known result put into the target, else the operands
 abbrev pub with_result : Folding → ℕ → ℕ → List AbsVal → Stmt → Option (List ℕ) → Scalar → Stmt
 with_result S k i row x None scalar = with_operands S row scalar x
-with_result S k i row x (Some to) scalar = result_or (with_operands S row scalar x) (constant_operand S.body.globals (known_result S.body k i row scalar x))
-  where
-    result_or : Stmt → Option Operand → Stmt
-    result_or y None = y
-    result_or y (Some c) = if passes (check.operand S.env 4 scalar c) then Copy to c else y
+with_result S k i row x (Some to) scalar = copy_or (check.operand S.env 4 scalar) to (with_operands S row scalar x) (constant_operand S.body.globals (known_result S.body k i row scalar x))
 
 abbrev pub target_scalar : Body → Option (List ℕ) → Scalar
 target_scalar B None = I64
