@@ -1,3 +1,5 @@
 pub mod Constants
 pub mod Known
 pub mod Statements
+pub mod Points
+pub mod Running

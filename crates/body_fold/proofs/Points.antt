@@ -1,0 +1,289 @@
+-- A function that is folded, at each point of a run.
+use Rattle.std.proofs.Common.{◌≡◌, ℕ, zero, suc, ◌+◌, ◌==◌, ℤ, Bool, true, false, not, cond, if◌then◌else◌, List, [], ◌∷◌, ◌++◌, map, length, take, append-nil, refl, sym, ◌∙◌, ap, subst, arith, Option, Some, None, Ok, slice_get}
+use Rattle.std.specs.List.{list_all, find}
+use Rattle.gimple_ir.specs.declared.scalar.Scalar.TheVariants.{I64}
+use Rattle.gimple_ir.specs.declared.operand.Operand.{Operand}
+use Rattle.gimple_ir.specs.declared.block.Block.{Block}
+use Rattle.gimple_ir.specs.declared.block.Case.{Case}
+use Rattle.gimple_ir.specs.declared.block.End.{End}
+use Rattle.gimple_ir.specs.declared.block.End.TheVariants.{Goto, If, Switch, Return}
+use Rattle.gimple_ir.specs.declared.declarations.Register.{Register}
+use Rattle.gimple_ir.specs.declared.declarations.Global.{Global as GlobalDef}
+use Rattle.gimple_ir.specs.declared.statement.Stmt.{Stmt}
+use Rattle.gimple_ir.specs.declared.statement.Stmt.TheVariants.{Copy, Arith, Compare, Convert, Load, Store, Call, Get, Put, Abort}
+use Rattle.gimple_ir.specs.declared.program.Function.{Function}
+use Rattle.gimple_ir.specs.declared.program.Program.{Program}
+use Rattle.gimple_core.specs.declared.machine.Cell.{Cell}
+use Rattle.gimple_core.specs.Operators.{in_scalar, cmp_of}
+use Rattle.gimple_core.specs.Operators as operators
+use Rattle.gimple_ir.specs.declared.scalar.Cmp.TheVariants.{Eq}
+use Rattle.gimple_core.specs.Memory.{Memory}
+use Rattle.gimple_core.specs.State.{Control, World, State, Scope, scope_of}
+use Rattle.gimple_core.specs.Run.{Calling, call_of, act, step, resumed, values_of, target_of, block_place, place_or, case_for, case_target, compares, value_of}
+use Rattle.gimple_core.specs.Trace.{Event, told, after}
+use Rattle.gimple_core.specs.Env.{Names, named, functions_by_name}
+use Rattle.gimple_core.specs.Statements as s
+use Rattle.gimple_core.specs.Verdict.{found, demand}
+use Rattle.gimple_core.proofs.Passed.{first_passed, found_so}
+use Rattle.gimple_claims.specs.Bodies.{FactsClaim, StateAt, IsAt, file_at, body_of as statements_of}
+use Rattle.gimple_claims.specs.Exits.{Exit, ToLabel, Returns, exit_of}
+use Rattle.gimple_claims.specs.Checks.{env_of, StmtsPass}
+use Rattle.gimple_claims.specs.Laws.{keys, register_keys}
+use Rattle.gimple_claims.specs.Typed.{cells_typed}
+use Rattle.gimple_claims.proofs.Comes.{Comes}
+use Rattle.gimple_claims.proofs.Files.{Placed, placed, file_is}
+use Rattle.gimple_claims.proofs.Lost.{stands, called_of}
+use Rattle.gimple_claims.proofs.Points.{meets_of, in_did_always}
+use Rattle.gimple_claims.proofs.Registers.{registers_are_declared}
+use Rattle.gimple_claims.proofs.Typed.{values_are_typed}
+use Rattle.gimple_claims.proofs.Activation.{Activation, here}
+use Rattle.fix_engine.specs.declared.lifted.Lifted.{Lifted}
+use Rattle.fix_engine.specs.declared.lifted.Lifted.TheVariants.{NotReached, Reached}
+use Rattle.value_domain.specs.declared.abs_val.AbsVal.{AbsVal}
+use Rattle.body_values.specs.declared.facts.Facts.{Facts}
+use Rattle.body_values.specs.Bodies.{Body, after_body}
+use Rattle.body_values.specs.Flow.{body_of, labels_of, body_at, value_or, values_at}
+use Rattle.body_values.specs.Rows.{RowFits}
+use Rattle.body_values.specs.Rising.{LoadsFit}
+use Rattle.body_values.specs.System.{loads_fit}
+use Rattle.body_values.specs.Claims.{given_of, InEachRun}
+use Rattle.body_values.proofs.Held.{RowHolds}
+use Rattle.body_values.proofs.OneRun.{each_before}
+use Rattle.body_values.proofs.Points.{F, sol, is_at}
+use Rattle.body_values.proofs.Solved.{to_option, reached_is, carried_is}
+use Rattle.body_fold.specs.Fold.{Folding, known_result, evaluated, never_traps, constant_operand, folded_arguments, formals_of, with_operands, folded_stmt, folded_end, new_stmt, new_end, stmt_at, end_at, IsLinked, first, linked, IsFolded}
+use Rattle.body_fold.specs.Claims.{folding_of, Folds}
+use Rattle.body_fold.proofs.Constants.{NamesMean}
+use Rattle.body_fold.proofs.Statements.{exit_at, exit_is, stmt_acts, arguments_put, end_leads}
+
+-- ---- labels that an end leads to
+
+abbrev Listed : List ℕ → ℕ → Type 0
+Listed ls label = (slot : ℕ) × (slice_get ls slot ≡ Some label)
+
+one_more : (x : ℕ) (ls : List ℕ) (label : ℕ) → Listed ls label → Listed (x ∷ ls) label
+one_more x ls label h = (suc h.0, h.1)
+
+case_listed_by : (c : Case) (o : Option Case) (ls : List ℕ) (other label : ℕ) (b : Bool) → (case_target o other ≡ label → Listed ls label) → case_target (if b then Some c else o) other ≡ label → Listed (c.target ∷ ls) label
+case_listed_by c o ls other label true more e = (0, ap Some e)
+case_listed_by c o ls other label false more e = one_more c.target ls label (more e)
+
+case_listed : (z : ℤ) (cases : List Case) (other label : ℕ) → case_for z cases other ≡ label → Listed (map (λ (c : Case). c.target) cases ++ other ∷ []) label
+case_listed z [] other label e = (0, ap Some e)
+case_listed z (c ∷ cs) other label e = case_listed_by c (find (λ c. cmp_of Eq z c.value) cs) (map (λ (c : Case). c.target) cs ++ other ∷ []) other label (cmp_of Eq z c.value) (case_listed z cs other label) e
+
+label_of : {k l : ℕ} → ToLabel k ≡ ToLabel l → k ≡ l
+label_of e = cc
+
+-- an end leads to one of its labels
+exit_listed : (globals : List GlobalDef) (scope : Scope) (cells : List Cell) (e : End) (label : ℕ) → exit_at globals scope cells e ≡ ToLabel label → Listed (labels_of e) label
+exit_listed globals scope cells (Goto to) label x = (0, ap Some (label_of x))
+exit_listed globals scope cells (If left cmp right hit miss) label x = by (compares (value_of globals scope cells left) cmp (value_of globals scope cells right)) (label_of x)
+  where
+    by : (b : Bool) → (if b then hit else miss) ≡ label → Listed (hit ∷ miss ∷ []) label
+    by true e = (0, ap Some e)
+    by false e = (1, ap Some e)
+exit_listed globals scope cells (Switch on cases other) label x = case_listed _ cases other label (label_of x)
+exit_listed globals scope cells (Return None) label x = cc
+exit_listed globals scope cells (Return (Some o)) label x = cc
+
+-- where an end leads by its label, it is this label
+target_exit : (globals : List GlobalDef) (e : End) (st : State) (label : ℕ) → target_of globals e st ≡ Some label → exit_of globals e st ≡ ToLabel label
+target_exit globals (Goto to) st label x = let same : to ≡ label = cc in ap ToLabel same
+target_exit globals (If left cmp right hit miss) st label x = ap ToLabel (some_of x)
+  where
+    some_of : {k l : ℕ} → Some k ≡ Some l → k ≡ l
+    some_of e = cc
+target_exit globals (Switch on cases other) st label x = ap ToLabel (some_of x)
+  where
+    some_of : {k l : ℕ} → Some k ≡ Some l → k ≡ l
+    some_of e = cc
+target_exit globals (Return operand) st label x = cc
+
+-- ---- calls
+
+pub call_is : (x : Stmt) (c : Calling) → call_of x ≡ Some c → x ≡ Call c.to c.callee c.arguments
+call_is (Copy to from) c e = cc
+call_is (Arith to left op right) c e = cc
+call_is (Compare to left cmp right) c e = cc
+call_is (Convert to scalar from) c e = cc
+call_is (Load to scalar place) c e = cc
+call_is (Store scalar place from) c e = cc
+call_is (Call to callee arguments) c e = let same : record { to = to; callee = callee; arguments = arguments } ≡ c = cc in ap (λ (z : Calling). Call z.to z.callee z.arguments) same
+call_is (Get to) c e = cc
+call_is (Put from) c e = cc
+call_is Abort c e = cc
+
+-- a call stays a call
+call_folded : (S : Folding) (j i : ℕ) (row : List AbsVal) (to : Option (List ℕ)) (callee : List ℕ) (xs : List Operand) → folded_stmt S j i row (Call to callee xs) ≡ Call to callee (folded_arguments S row (formals_of (named callee S.names)) xs)
+unfolding folded_stmt with_operands known_result evaluated never_traps constant_operand
+call_folded S j i row None callee xs = refl
+call_folded S j i row (Some to) callee xs = refl
+
+module _ (p : Program) (n : ℕ) (f : Function) (facts : Facts) (most : ℕ) (ts : List ℤ) (xs : List (Lifted (List AbsVal))) (g : Function) (folds : Folds p n f facts most ts xs g) (all : InEachRun p (FactsClaim f (given_of n f facts)))
+    (mean : NamesMean p.globals f.locals) (input : List ℤ) (numbers : list_all (in_scalar I64) input ≡ true) where
+  abbrev pub S : Folding
+  S = folding_of p n f facts most ts
+
+  abbrev pub values : ℕ → ℕ → Lifted (List AbsVal)
+  values = values_at (body_of p n f facts most ts) f.blocks xs
+
+  loads : LoadsFit (body_of p n f facts most ts)
+  loads = loads_fit p n f facts most ts folds.values.fit
+
+  -- ---- the point
+
+  -- the registers are in the values of the point, which is one of the function
+  pub record IsHere (st : State) : Type 0 where
+    pub row : List AbsVal
+    pub reached : values st.top.block st.top.index ≡ Reached row
+    pub fits : RowFits most ts (length (f.params ++ f.registers)) row
+    pub holds : RowHolds row st.world.cells
+    pub block : Block
+    pub found : slice_get f.blocks st.top.block ≡ Some block
+    pub end : st.top.end ≡ block.end
+    pub last : st.top.rest ≡ [] → length block.body ≡ st.top.index
+
+  same_body : (o : Option Block) → body_at o ≡ statements_of o
+  same_body None = refl
+  same_body (Some b) = refl
+
+  file_reached : (st : State) (a : IsAt f (F p n f facts most ts xs folds.values input numbers) (sol p n f facts most ts xs folds.values input numbers) st.top st.world.cells) → values st.top.block st.top.index ≡ Reached a.file
+  unfolding file_at values_at
+  file_reached st a =
+      let there : file_at (F p n f facts most ts xs folds.values input numbers) (sol p n f facts most ts xs folds.values input numbers) f.blocks st.top.block st.top.index ≡ Some a.file =
+      file_is f (F p n f facts most ts xs folds.values input numbers) (sol p n f facts most ts xs folds.values input numbers) st.top.block st.top.index st.top.rest st.top.end a.file a.state in
+      reached_is _ a.file
+      (ap (λ ys. to_option (after_body (body_of p n f facts most ts) st.top.block 0 (take st.top.index ys) (value_or (slice_get xs st.top.block)))) (same_body (slice_get f.blocks st.top.block))
+      ∙ (carried_is (body_of p n f facts most ts) st.top.block 0 (take st.top.index (statements_of (slice_get f.blocks st.top.block))) (value_or (slice_get xs st.top.block)) ∙ there))
+
+  pub is_here : (past : List Event) (st : State) → Comes p input past st → st.top.function ≡ f → IsHere st
+  is_here past st c same =
+      let a = is_at p n f facts most ts xs folds.values input numbers past st c same (meets_of f (given_of n f facts) st.top.serial past (each_before p (FactsClaim f (given_of n f facts)) input (all input numbers) past st c)) in
+      let q : Placed f (F p n f facts most ts xs folds.values input numbers) (sol p n f facts most ts xs folds.values input numbers) st.top.block st.top.index st.top.rest st.top.end a.file =
+      placed f (F p n f facts most ts xs folds.values input numbers) (sol p n f facts most ts xs folds.values input numbers) st.top.block st.top.index st.top.rest st.top.end a.file a.state in
+      record {
+        row = a.file;
+        reached = file_reached st a;
+        fits = a.within.0;
+        holds = a.within.1;
+        block = q.block;
+        found = q.found;
+        end = q.end;
+        last = λ e. let whole : length q.block.body ≡ length q.done = ap length (q.body ∙ ap (λ ys. q.done ++ ys) e ∙ append-nil q.done) in whole ∙ q.index;
+      }
+
+  passes : (past : List Event) (st : State) → Comes p input past st → (x : Stmt) (rest : List Stmt) → st.top.rest ≡ x ∷ rest → s.statement (env_of p st.top.function) (functions_by_name p.functions) x ≡ Ok tt
+  passes past st c x rest e =
+      let every : StmtsPass (env_of p st.top.function) (functions_by_name p.functions) (x ∷ rest) = subst (StmtsPass (env_of p st.top.function) (functions_by_name p.functions)) e (stands p folds.values.accepted input past st c).top.rest in
+      every.0
+
+  typed : (past : List Event) (st : State) → Comes p input past st → cells_typed st.world.cells ≡ true
+  typed past st c = (values_are_typed p folds.values.accepted input numbers past st c).top
+
+  declared : (past : List Event) (st : State) → Comes p input past st → keys st.world.cells ≡ register_keys (st.top.function.params ++ st.top.function.registers)
+  declared past st c = (registers_are_declared p input past st c).top
+
+  -- ---- statements
+
+  pub stmt_here : (past : List Event) (st : State) (x : Stmt) (rest : List Stmt) → Comes p input past st → st.top.function ≡ f → st.top.rest ≡ x ∷ rest → call_of x ≡ None →
+      (call_of (new_stmt S values st.top.block st.top.index x) ≡ None) × (act p.globals (scope_of st.top) (new_stmt S values st.top.block st.top.index x) st.world ≡ act p.globals (scope_of st.top) x st.world)
+  stmt_here past st x rest c same e uncalled =
+      let a : IsHere st = is_here past st c same in
+      subst (λ v. (call_of (stmt_at S st.top.block st.top.index x v) ≡ None) × (act p.globals (scope_of st.top) (stmt_at S st.top.block st.top.index x v) st.world ≡ act p.globals (scope_of st.top) x st.world)) (sym a.reached)
+      (subst (λ (h : Function). RowFits most ts (length (h.params ++ h.registers)) a.row → LoadsFit (body_of p n h facts most ts) → NamesMean p.globals h.locals →
+          (call_of (folded_stmt (folding_of p n h facts most ts) st.top.block st.top.index a.row x) ≡ None) × (act p.globals (scope_of st.top) (folded_stmt (folding_of p n h facts most ts) st.top.block st.top.index a.row x) st.world ≡ act p.globals (scope_of st.top) x st.world)) same
+      (λ fits loads mean.
+        stmt_acts p n st.top.function facts most ts folds.values.lawful st.top.serial st.world a.row (declared past st c) (typed past st c) fits a.holds loads mean st.top.block st.top.index (functions_by_name p.functions) x (passes past st c x rest e) uncalled)
+      a.fits loads mean)
+
+  -- a call, and the call that stands for it
+  pub record Calls (st : State) (x y : Stmt) (c : Calling) : Type 0 where
+    pub arguments : List Operand
+    pub is : call_of y ≡ Some (record { to = c.to; callee = c.callee; arguments = arguments })
+    pub values_same : values_of p.globals (scope_of st.top) st.world.cells arguments ≡ values_of p.globals (scope_of st.top) st.world.cells c.arguments
+
+  arguments_same : (st : State) (row : List AbsVal) (d : Calling) (h : Function) → s.called (env_of p h) (functions_by_name p.functions) d.to d.callee d.arguments ≡ Ok tt →
+      ((formals : List Register) → s.arguments (env_of p h) formals d.arguments ≡ Ok tt → values_of p.globals (scope_of st.top) st.world.cells (folded_arguments (folding_of p n h facts most ts) row formals d.arguments) ≡ values_of p.globals (scope_of st.top) st.world.cells d.arguments) →
+      values_of p.globals (scope_of st.top) st.world.cells (folded_arguments (folding_of p n h facts most ts) row (formals_of (named d.callee (functions_by_name p.functions))) d.arguments) ≡ values_of p.globals (scope_of st.top) st.world.cells d.arguments
+  unfolding s.called
+  arguments_same st row d h e put =
+      let a = first_passed (s.target (env_of p h) d.to) _ tt e in
+      let b = first_passed (found (named d.callee (functions_by_name p.functions)) 1) _ tt a.2 in
+      let w = first_passed (demand (length d.arguments == length b.0.params) 5) _ tt b.2 in
+      let q = first_passed (s.arguments (env_of p h) b.0.params d.arguments) _ tt w.2 in
+      let there : formals_of (named d.callee (functions_by_name p.functions)) ≡ b.0.params = ap formals_of (found_so (named d.callee (functions_by_name p.functions)) 1 b.0 b.1) in
+      ap (λ formals. values_of p.globals (scope_of st.top) st.world.cells (folded_arguments (folding_of p n h facts most ts) row formals d.arguments)) there ∙ put b.0.params q.1
+
+  call_here_by : (past : List Event) (st : State) (x : Stmt) (rest : List Stmt) (d : Calling) (a : IsHere st) → Comes p input past st → st.top.function ≡ f → st.top.rest ≡ x ∷ rest → call_of x ≡ Some d → Calls st x (folded_stmt S st.top.block st.top.index a.row x) d
+  call_here_by past st x rest d a c same e is =
+      let checked = called_of (env_of p st.top.function) (functions_by_name p.functions) x d is (passes past st c x rest e) in
+      let there : folded_stmt S st.top.block st.top.index a.row x ≡ Call d.to d.callee (folded_arguments S a.row (formals_of (named d.callee (functions_by_name p.functions))) d.arguments) =
+      ap (folded_stmt S st.top.block st.top.index a.row) (call_is x d is) ∙ call_folded S st.top.block st.top.index a.row d.to d.callee d.arguments in
+      record {
+        arguments = folded_arguments S a.row (formals_of (named d.callee (functions_by_name p.functions))) d.arguments;
+        is = ap call_of there;
+        values_same = subst (λ (h : Function). RowFits most ts (length (h.params ++ h.registers)) a.row → LoadsFit (body_of p n h facts most ts) → NamesMean p.globals h.locals →
+            values_of p.globals (scope_of st.top) st.world.cells (folded_arguments (folding_of p n h facts most ts) a.row (formals_of (named d.callee (functions_by_name p.functions))) d.arguments) ≡ values_of p.globals (scope_of st.top) st.world.cells d.arguments) same
+        (λ fits loads mean. arguments_same st a.row d st.top.function checked
+          (λ formals q. arguments_put p n st.top.function facts most ts folds.values.lawful st.top.serial st.world a.row (declared past st c) (typed past st c) fits a.holds loads mean formals d.arguments q))
+        a.fits loads mean;
+      }
+
+  pub call_here : (past : List Event) (st : State) (x : Stmt) (rest : List Stmt) (d : Calling) → Comes p input past st → st.top.function ≡ f → st.top.rest ≡ x ∷ rest → call_of x ≡ Some d → Calls st x (new_stmt S values st.top.block st.top.index x) d
+  call_here past st x rest d c same e is =
+      let a : IsHere st = is_here past st c same in
+      subst (λ v. Calls st x (stmt_at S st.top.block st.top.index x v) d) (sym a.reached) (call_here_by past st x rest d a c same e is)
+
+  -- ---- ends
+
+  end_value : (st : State) (a : IsHere st) → st.top.rest ≡ [] → new_end S f.blocks values st.top.block st.top.end ≡ folded_end S a.row st.top.end
+  end_value st a e =
+      let size : length (body_at (slice_get f.blocks st.top.block)) ≡ st.top.index = ap (λ o. length (body_at o)) a.found ∙ a.last e in
+      ap (λ m. end_at S st.top.end (values st.top.block m)) size ∙ ap (end_at S st.top.end) a.reached
+
+  pub end_here : (past : List Event) (st : State) → Comes p input past st → st.top.function ≡ f → st.top.rest ≡ [] → exit_at p.globals (scope_of st.top) st.world.cells (new_end S f.blocks values st.top.block st.top.end) ≡ exit_of p.globals st.top.end st
+  end_here past st c same e =
+      let a : IsHere st = is_here past st c same in
+      ap (exit_at p.globals (scope_of st.top) st.world.cells) (end_value st a e)
+      ∙ (subst (λ (h : Function). RowFits most ts (length (h.params ++ h.registers)) a.row → LoadsFit (body_of p n h facts most ts) → NamesMean p.globals h.locals →
+          exit_at p.globals (scope_of st.top) st.world.cells (folded_end (folding_of p n h facts most ts) a.row st.top.end) ≡ exit_at p.globals (scope_of st.top) st.world.cells st.top.end) same
+      (λ fits loads mean. end_leads p n st.top.function facts most ts folds.values.lawful st.top.serial st.world a.row (declared past st c) (typed past st c) fits a.holds loads mean st.top.end (stands p folds.values.accepted input past st c).top.end)
+      a.fits loads mean
+      ∙ sym (exit_is p.globals st.top.end st))
+
+  -- ---- blocks
+
+  -- a jump leads to a block to which a new end leads
+  goes_linked : (past : List Event) (st : State) (label : ℕ) → Comes p input past st → st.top.function ≡ f → st.top.rest ≡ [] → exit_of p.globals st.top.end st ≡ ToLabel label → IsLinked f.blocks (new_end S f.blocks values) st.top.block →
+      IsLinked f.blocks (new_end S f.blocks values) (place_or (block_place label f.blocks))
+  goes_linked past st label c same e x here =
+      let a : IsHere st = is_here past st c same in
+      let listed : Listed (labels_of (new_end S f.blocks values st.top.block st.top.end)) label = exit_listed p.globals (scope_of st.top) st.world.cells _ label (end_here past st c same e ∙ x) in
+      linked st.top.block a.block listed.0 label here a.found (subst (λ (z : End). slice_get (labels_of (new_end S f.blocks values st.top.block z)) listed.0 ≡ Some label) a.end listed.1)
+
+  abbrev pub Kept : ℕ → Type 0
+  Kept j = IsLinked f.blocks (new_end S f.blocks values) j
+
+  abbrev Here : List Event → Control → World → Type 0
+  Here past c w = Kept c.block
+
+  abbrev Waits : List Event → Control → List Cell → Option (List ℕ) → Memory → Type 0
+  Waits past c cells takes m = Kept c.block
+
+  stays : Activation p input f Here Waits
+  stays = record {
+    enters = λ past h serial arguments m caller takes b bs w e o q x y. first;
+    stmt = λ past st x rest w c same h e o d. h;
+    calls = λ past st x rest d t c same h e o q. h;
+    jumps = λ past st label b c same h e t o.
+        subst (λ (g : Function). Kept (place_or (block_place label g.blocks))) (sym same) (goes_linked past st label c same e (target_exit p.globals st.top.end st label t) h);
+    others = λ past st c cells takes comes w. in_did_always (λ t. Kept c.block) (λ t. w) (step p st);
+    back = λ past st c cells v comes same w e x. w;
+  }
+
+  pub kept_here : (past : List Event) (st : State) → Comes p input past st → st.top.function ≡ f → Kept st.top.block
+  kept_here past st c same = here p input f Here Waits stays past st c same
+
+  pub jump_kept : (past : List Event) (st : State) (label : ℕ) → Comes p input past st → st.top.function ≡ f → st.top.rest ≡ [] → exit_of p.globals st.top.end st ≡ ToLabel label → Kept (place_or (block_place label f.blocks))
+  jump_kept past st label c same e x = goes_linked past st label c same e x (kept_here past st c same)
