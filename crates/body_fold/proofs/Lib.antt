@@ -2,4 +2,10 @@ pub mod Constants
 pub mod Known
 pub mod Statements
 pub mod Points
+pub mod Names
 pub mod Running
+pub mod Relabelled
+pub mod Sees
+pub mod Passing
+pub mod Labels
+pub mod Accepted

@@ -29,6 +29,7 @@ use Rattle.body_fold.specs.Fold.{new_stmt, new_end, first}
 use Rattle.body_fold.specs.Claims.{replaced, Folds, FoldKeepsRun}
 use Rattle.body_fold.proofs.Constants.{NamesMean}
 use Rattle.body_fold.proofs.Statements.{exit_is}
+use Rattle.body_fold.proofs.Names.{names_mean}
 use Rattle.body_fold.proofs.Points.{S, values, Calls, stmt_here, call_here, end_here, jump_kept}
 
 -- ---- one item of a list replaced
@@ -241,3 +242,6 @@ module _ (p : Program) (n : ℕ) (f : Function) (facts : Facts) (most : ℕ) (ts
 
   pub run_same : (turns : ℕ) → Run p input turns ≡ Run (replaced p n g) input turns
   run_same turns = instances_run I Fits p gs input specialises turns
+
+pub fold_keeps_run : FoldKeepsRun
+fold_keeps_run p n f facts most ts xs g folds all input numbers turns = run_same p n f facts most ts xs g folds all (names_mean p n f folds.values.accepted folds.own) input numbers turns

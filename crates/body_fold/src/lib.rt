@@ -1,2 +1,6 @@
 //! The known constants of a function put into its body.
 #![tactic(auto)]
+
+mod laws;
+
+pub use laws::{folding_keeps_runs, folding_passes_checks};

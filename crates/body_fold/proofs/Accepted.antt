@@ -1,0 +1,294 @@
+-- A program with one function folded has no type fault.
+use Rattle.std.proofs.Common.{◌≡◌, ℕ, zero, suc, ◌+◌, ◌==◌, ℤ, Bool, true, false, not, cond, ◌||◌, if◌then◌else◌, List, [], ◌∷◌, ◌++◌, map, length, refl, sym, ◌∙◌, ap, subst, arith, Option, Some, None, Ok, slice_get, slice_set}
+use Rattle.std.specs.Prelude.{is_some}
+use Rattle.std.specs.List.{find, list_any}
+use Rattle.std.specs.Str.{bytes_eq}
+use Rattle.gimple_ir.specs.declared.declarations.Register.{Register}
+use Rattle.gimple_ir.specs.declared.declarations.Global.{Global}
+use Rattle.gimple_ir.specs.declared.scalar.Scalar.{Scalar}
+use Rattle.gimple_ir.specs.declared.statement.Stmt.{Stmt}
+use Rattle.gimple_ir.specs.declared.block.Block.{Block}
+use Rattle.gimple_ir.specs.declared.block.End.{End}
+use Rattle.gimple_ir.specs.declared.program.Function.{Function}
+use Rattle.gimple_ir.specs.declared.program.Program.{Program}
+use Rattle.gimple_ir.specs.declared.fault.Site.TheVariants as site
+use Rattle.gimple_core.specs.Names.{same_name}
+use Rattle.gimple_core.specs.Run.{function_named, main_name, block_at, block_place, place_or}
+use Rattle.gimple_core.specs.Verdict.{◌>>◌, demand, at}
+use Rattle.gimple_core.specs.Env.{Env, Names, has, named, declared, globals_by_name, functions_by_name}
+use Rattle.gimple_core.specs.Statements as s
+use Rattle.gimple_core.specs.Declarations as d
+use Rattle.gimple_core.specs.Accepted.{checked, first_fault, known_env}
+use Rattle.gimple_core.proofs.Passed.{first_passed, both_pass, demanded, demand_passes, at_passed, at_passes, no_fault_of}
+use Rattle.gimple_core.proofs.EnvLemmas.{has_append, named_find, declared_new, declares}
+use Rattle.gimple_core.proofs.KeptAccepted.{heads_are}
+use Rattle.gimple_core.proofs.ProgramTyped.{labels_are}
+use Rattle.gimple_claims.specs.Checks.{env_of, StmtsPass, BlockPasses, BlocksPass}
+use Rattle.gimple_claims.specs.Kept.{new_body, new_blocks}
+use Rattle.gimple_claims.proofs.Checked.{ok_same}
+use Rattle.gimple_claims.proofs.Kept.{NewAt, kept_new}
+use Rattle.fix_engine.specs.declared.lifted.Lifted.{Lifted}
+use Rattle.fix_engine.specs.declared.lifted.Lifted.TheVariants.{NotReached, Reached}
+use Rattle.value_domain.specs.declared.abs_val.AbsVal.{AbsVal}
+use Rattle.body_values.specs.declared.facts.Facts.{Facts}
+use Rattle.body_values.specs.Flow.{body_of, labels_of, values_at}
+use Rattle.body_fold.specs.Fold.{Folding, stmt_at, end_at, new_stmt, new_end, IsLinked, first, linked, IsFolded}
+use Rattle.body_fold.specs.Claims.{replaced, folding_of, Folds, FoldIsAccepted}
+use Rattle.body_fold.proofs.Names.{Parts, parts, function_at}
+use Rattle.body_fold.proofs.Relabelled.{relabelled, statement_re, head_of, heads_of, SameHeads, statement_heads, own_same, function_same}
+use Rattle.body_fold.proofs.Sees.{sees, blocks_pass}
+use Rattle.body_fold.proofs.Passing.{stmt_passes, end_passes, LabelsPass, ending_listed, ending_re}
+use Rattle.body_fold.proofs.Labels.{labelled, block_listed, labels_kept}
+
+-- ---- one function replaced by one that looks alike from outside
+
+record Face : Type 0 where
+  name : List ℕ
+  params : List Register
+  result : Option Scalar
+
+abbrev face : Function → Face
+face f = record { name = f.name; params = f.params; result = f.result }
+
+abbrev first_face : Face → List Face → Face
+first_face x [] = x
+first_face x (y ∷ ys) = y
+
+abbrev later_faces : List Face → List Face
+later_faces [] = []
+later_faces (y ∷ ys) = ys
+
+abbrev Alike : List Function → List Function → Type 0
+Alike fs gs = map face fs ≡ map face gs
+
+heads_same : (f g : Function) (fs gs : List Function) → Alike (f ∷ fs) (g ∷ gs) → face f ≡ face g
+heads_same f g fs gs e = ap (first_face (face f)) e
+
+set_faces : (fs : List Function) (n : ℕ) (f g : Function) → slice_get fs n ≡ Some f → face g ≡ face f → Alike fs (slice_set fs n g)
+set_faces [] n f g e t = cc
+set_faces (x ∷ xs) zero f g e t = let same : x ≡ f = cc in λ i. (ap face same ∙ sym t) i ∷ map face xs
+set_faces (x ∷ xs) (suc n) f g e t = ap (λ ys. face x ∷ ys) (set_faces xs n f g e t)
+
+found_alike : (name : List ℕ) (fs gs : List Function) → Alike fs gs → heads_of (find (λ (f : Function). same_name f.name name) gs) ≡ heads_of (find (λ (f : Function). same_name f.name name) fs)
+found_alike name [] [] e = refl
+found_alike name [] (g ∷ gs) e = cc
+found_alike name (f ∷ fs) [] e = cc
+found_alike name (f ∷ fs) (g ∷ gs) e =
+    let same : face f ≡ face g = heads_same f g fs gs e in
+    by (same_name g.name name) (same_name f.name name) (ap (λ (x : Face). same_name x.name name) (sym same)) same (found_alike name fs gs (ap later_faces e))
+  where
+    by : (a b : Bool) → a ≡ b → face f ≡ face g → heads_of (find (λ (f : Function). same_name f.name name) gs) ≡ heads_of (find (λ (f : Function). same_name f.name name) fs) →
+        heads_of (if a then Some g else find (λ (f : Function). same_name f.name name) gs) ≡ heads_of (if b then Some f else find (λ (f : Function). same_name f.name name) fs)
+    by true true t same more = λ i. Some (record { params = (sym same i).params; result = (sym same i).result })
+    by true false t same more = cc
+    by false true t same more = cc
+    by false false t same more = more
+
+tables_alike : (fs gs : List Function) → Alike fs gs → SameHeads (functions_by_name gs) (functions_by_name fs)
+tables_alike fs gs e name = ap heads_of (named_find (λ (f : Function). f.name) name gs) ∙ (found_alike name fs gs e ∙ sym (ap heads_of (named_find (λ (f : Function). f.name) name fs)))
+
+some_if : (b : Bool) (f : Function) → is_some (cond b (Some f) None) ≡ b
+some_if true f = refl
+some_if false f = refl
+
+one_named : (f g : Function) → f.name ≡ g.name → (name : List ℕ) → has name ((g.name, g) ∷ []) ≡ has name ((f.name, f) ∷ [])
+one_named f g e name = some_if (bytes_eq name g.name) g ∙ (ap (bytes_eq name) (sym e) ∙ sym (some_if (bytes_eq name f.name) f))
+
+heads_alike : (globals : Names Global) (number : ℕ) (some more out : Names Function) (fs gs : List Function) → Alike fs gs → ((name : List ℕ) → has name some ≡ has name more) → d.heads globals number more fs ≡ Ok out →
+    (table : Names Function) × (d.heads globals number some gs ≡ Ok table)
+unfolding d.heads d.head
+heads_alike globals number some more out [] [] e t h = (some, refl)
+heads_alike globals number some more out [] (g ∷ gs) e t h = cc
+heads_alike globals number some more out (f ∷ fs) [] e t h = cc
+heads_alike globals number some more out (f ∷ fs) (g ∷ gs) e t h =
+    let a = first_passed (at _ (d.head globals more f)) _ out h in
+    let one = at_passed _ (d.head globals more f) a.0 a.1 in
+    let b = first_passed (demand (not (has f.name globals)) 2) _ a.0 one in
+    let c = declared_new more f.name f a.0 b.2 in
+    let names : f.name ≡ g.name = ap (λ (x : Face). x.name) (heads_same f g fs gs e) in
+    let fresh : has g.name some ≡ false = t g.name ∙ (ap (λ n. has n more) (sym names) ∙ c.0) in
+    let rest = heads_alike globals (number + 1) (some ++ (g.name, g) ∷ []) (more ++ (f.name, f) ∷ []) out fs gs (ap later_faces e) (grown names) (subst (λ z. d.heads globals (number + 1) z fs ≡ Ok out) c.1 a.2) in
+    (rest.0, both_pass (at (site.Statement number 0) (d.head globals some g)) _ (some ++ (g.name, g) ∷ []) rest.0
+      (at_passes _ (d.head globals some g) _ (both_pass (demand (not (has g.name globals)) 2) _ tt _ (ap (λ n. demand (not (has n globals)) 2) (sym names) ∙ b.1) (declares some g.name g fresh))) rest.1)
+  where
+    grown : f.name ≡ g.name → (name : List ℕ) → has name (some ++ (g.name, g) ∷ []) ≡ has name (more ++ (f.name, f) ∷ [])
+    grown names name = has_append name some ((g.name, g) ∷ []) ∙ (λ i. t name i || one_named f g names name i) ∙ sym (has_append name more ((f.name, f) ∷ []))
+
+main_alike : (number : ℕ) (fs gs : List Function) → Alike fs gs → d.main number gs ≡ d.main number fs
+unfolding d.main
+main_alike number [] [] e = refl
+main_alike number [] (g ∷ gs) e = cc
+main_alike number (f ∷ fs) [] e = cc
+main_alike number (f ∷ fs) (g ∷ gs) e =
+    let same : face g ≡ face f = sym (heads_same f g fs gs e) in
+    λ i. if bytes_eq main_name (same i).name then at (site.Statement number 0) (demand (d.is_main (same i).params (same i).result) 3) else main_alike (number + 1) fs gs (ap later_faces e) i
+
+-- ---- the other functions
+
+functions_alike : (known : Env) (names more : Names Function) (number : ℕ) (fs : List Function) → SameHeads names more → d.functions known names number fs ≡ d.functions known more number fs
+unfolding d.functions
+functions_alike known names more number [] e = refl
+functions_alike known names more number (f ∷ fs) e = λ i. function_same names more e known number f i >> functions_alike known names more (number + 1) fs e i
+
+functions_set : (known : Env) (names more : Names Function) (number : ℕ) (fs : List Function) (n : ℕ) (f g : Function) → SameHeads names more → slice_get fs n ≡ Some f → d.functions known more number fs ≡ Ok tt → ((k : ℕ) → d.one_function known names k g ≡ Ok tt) → d.functions known names number (slice_set fs n g) ≡ Ok tt
+unfolding d.functions
+functions_set known names more number [] n f g e own h new = cc
+functions_set known names more number (x ∷ xs) zero f g e own h new =
+    let a = first_passed (d.one_function known more number x) _ tt h in
+    both_pass (d.one_function known names number g) _ tt tt (new number) (functions_alike known names more (number + 1) xs e ∙ a.2)
+functions_set known names more number (x ∷ xs) (suc n) f g e own h new =
+    let a = first_passed (d.one_function known more number x) _ tt h in
+    both_pass (d.one_function known names number x) _ tt tt (function_same names more e known number x ∙ a.1) (functions_set known names more (number + 1) xs n f g e own a.2 new)
+
+-- ---- what the function sees
+
+own_folded : (known out : Env) (names : Names Function) (f : Function) (bs : List Block) (ls : List ℕ) → d.own known names f ≡ Ok out → d.has_blocks bs ≡ true → d.labels [] bs ≡ Ok ls → d.own known names (record f { blocks = bs }) ≡ Ok (relabelled out ls)
+unfolding d.own
+own_folded known out names f bs ls h some labels =
+    let first : Env = record known { locals = []; registers = []; labels = []; result = f.result } in
+    let p = first_passed (d.registers first names f.params) _ out h in
+    let q = first_passed (d.locals p.0 names f.locals) _ out p.2 in
+    let r = first_passed (d.registers q.0 names f.registers) _ out q.2 in
+    let k = first_passed (demand (d.has_blocks f.blocks) 10) _ out r.2 in
+    let t = first_passed (d.labels [] f.blocks) _ out k.2 in
+    both_pass (d.registers first names f.params) _ p.0 (relabelled out ls) p.1
+    (both_pass (d.locals p.0 names f.locals) _ q.0 (relabelled out ls) q.1
+    (both_pass (d.registers q.0 names f.registers) _ r.0 (relabelled out ls) r.1
+    (both_pass (demand (d.has_blocks bs) 10) _ tt (relabelled out ls) (demand_passes _ 10 some)
+    (both_pass (d.labels [] bs) _ ls (relabelled out ls) labels (ap (λ (e : Env). Ok (relabelled e ls)) (ok_same t.2))))))
+
+labels_of_function : (known out : Env) (names : Names Function) (f : Function) → d.own known names f ≡ Ok out → (ls : List ℕ) × (d.labels [] f.blocks ≡ Ok ls)
+unfolding d.own
+labels_of_function known out names f h =
+    let first : Env = record known { locals = []; registers = []; labels = []; result = f.result } in
+    let p = first_passed (d.registers first names f.params) _ out h in
+    let q = first_passed (d.locals p.0 names f.locals) _ out p.2 in
+    let r = first_passed (d.registers q.0 names f.registers) _ out q.2 in
+    let k = first_passed (demand (d.has_blocks f.blocks) 10) _ out r.2 in
+    let t = first_passed (d.labels [] f.blocks) _ out k.2 in
+    (t.0, t.1)
+
+-- ---- the folded function
+
+module _ (p : Program) (n : ℕ) (f : Function) (facts : Facts) (most : ℕ) (ts : List ℤ) (values : ℕ → ℕ → Lifted (List AbsVal)) (names : Names Function) (heads : SameHeads names (functions_by_name p.functions)) (keep : ℕ → Bool) where
+  abbrev S : Folding
+  S = folding_of p n f facts most ts
+
+  abbrev put : ℕ → ℕ → Stmt → Stmt
+  put k i x = new_stmt S values k i x
+
+  abbrev end : ℕ → End → End
+  end k e = new_end S f.blocks values k e
+
+  abbrev new : List Block
+  new = new_blocks put end keep 0 f.blocks
+
+  at_passes_stmt : (k i : ℕ) (x : Stmt) (v : Lifted (List AbsVal)) → s.statement (env_of p f) (functions_by_name p.functions) x ≡ Ok tt → s.statement (env_of p f) (functions_by_name p.functions) (stmt_at S k i x v) ≡ Ok tt
+  at_passes_stmt k i x NotReached h = h
+  at_passes_stmt k i x (Reached row) h = stmt_passes p f S row refl refl k i x h
+
+  at_passes_end : (e : End) (v : Lifted (List AbsVal)) → s.ending (env_of p f) e ≡ Ok tt → s.ending (env_of p f) (end_at S e v) ≡ Ok tt
+  at_passes_end e NotReached h = h
+  at_passes_end e (Reached row) h = end_passes p f S row refl refl e h
+
+  body_new : (ls : List ℕ) (index number k i : ℕ) (xs : List Stmt) → StmtsPass (env_of p f) (functions_by_name p.functions) xs → s.body (relabelled (env_of p f) ls) names index number (new_body put k i xs) ≡ Ok tt
+  unfolding s.body
+  body_new ls index number k i [] h = refl
+  body_new ls index number k i (x ∷ xs) h =
+      let one : s.statement (relabelled (env_of p f) ls) names (put k i x) ≡ Ok tt =
+      statement_heads (relabelled (env_of p f) ls) names (functions_by_name p.functions) heads (put k i x) ∙ (statement_re (env_of p f) ls (functions_by_name p.functions) (put k i x) ∙ at_passes_stmt k i x (values k i) h.0) in
+      both_pass (at (site.Statement index number) (s.statement (relabelled (env_of p f) ls) names (put k i x))) _ tt tt (at_passes _ (s.statement (relabelled (env_of p f) ls) names (put k i x)) tt one) (body_new ls index (number + 1) k (i + 1) xs h.1)
+
+  abbrev EndsPass : List ℕ → ℕ → List Block → Type 0
+  EndsPass ls k bs = (j m : ℕ) (b : Block) → slice_get bs j ≡ Some b → k + j ≡ m → keep m ≡ true → LabelsPass (relabelled (env_of p f) ls) (end m b.end)
+
+  later_ends : (ls : List ℕ) (k : ℕ) (b : Block) (bs : List Block) → EndsPass ls k (b ∷ bs) → EndsPass ls (k + 1) bs
+  later_ends ls k b bs h j m c e a t = h (suc j) m c e (omega (arith, a)) t
+
+  blocks_new : (ls : List ℕ) (index number k : ℕ) (bs : List Block) → BlocksPass (env_of p f) (functions_by_name p.functions) bs → EndsPass ls k bs → s.blocks (relabelled (env_of p f) ls) names index number (new_blocks put end keep k bs) ≡ Ok tt
+  unfolding s.blocks
+  blocks_new ls index number k [] h ends = refl
+  blocks_new ls index number k (b ∷ bs) h ends = by (keep k) refl (λ m. blocks_new ls index m (k + 1) bs h.1 (later_ends ls k b bs ends))
+    where
+      made : Block
+      made = record { label = b.label; body = new_body put k 0 b.body; end = end k b.end }
+
+      by : (t : Bool) → keep k ≡ t → ((m : ℕ) → s.blocks (relabelled (env_of p f) ls) names index m (new_blocks put end keep (k + 1) bs) ≡ Ok tt) → s.blocks (relabelled (env_of p f) ls) names index number (if t then made ∷ new_blocks put end keep (k + 1) bs else new_blocks put end keep (k + 1) bs) ≡ Ok tt
+      by true t more =
+          let passes : s.ending (relabelled (env_of p f) ls) (end k b.end) ≡ Ok tt =
+          ending_re (env_of p f) ls (end k b.end) (at_passes_end b.end _ h.0.end) (ends 0 k b refl (omega arith) t) in
+          both_pass (s.body (relabelled (env_of p f) ls) names index number made.body) _ tt tt (body_new ls index number k 0 b.body h.0.body)
+          (both_pass (at (site.Statement index (number + length made.body)) (s.ending (relabelled (env_of p f) ls) made.end)) _ tt tt (at_passes _ (s.ending (relabelled (env_of p f) ls) made.end) tt passes)
+          (more (number + length made.body + 1)))
+      by false t more = more number
+
+  -- ---- the labels of the kept ends
+
+  module _ (kept : (k : ℕ) → IsLinked f.blocks (end) k → keep k ≡ true) (reaches : (k : ℕ) → keep k ≡ true → IsLinked f.blocks (end) k) where
+    block_passes : (bs : List Block) (j : ℕ) (b : Block) → BlocksPass (env_of p f) (functions_by_name p.functions) bs → slice_get bs j ≡ Some b → BlockPasses (env_of p f) (functions_by_name p.functions) b
+    block_passes [] j b h e = cc
+    block_passes (x ∷ xs) zero b h e = let same : x ≡ b = cc in subst (BlockPasses (env_of p f) (functions_by_name p.functions)) same h.0
+    block_passes (x ∷ xs) (suc j) b h e = block_passes xs j b h.1 e
+
+    new_listed : (b : Block) (m : ℕ) (o : Option Block) → NewAt put end m b o → (c : Block) × (o ≡ Some c)
+    new_listed b m o h = (h.block, h.found)
+
+    label_kept : (ls : List ℕ) (label : ℕ) → ls ≡ map (λ (b : Block). b.label) new → s.label (env_of p f) label ≡ Ok tt → keep (place_or (block_place label f.blocks)) ≡ true → s.label (relabelled (env_of p f) ls) label ≡ Ok tt
+    unfolding s.label
+    label_kept ls label e h k =
+        let b = labelled label f.blocks (demanded _ 8 h) in
+        let c = new_listed b.0 (place_or (block_place label f.blocks)) _ (kept_new put end keep label f.blocks b.0 b.1 k) in
+        demand_passes _ 8 (ap (λ qs. list_any (λ l. label == l) qs) e ∙ block_listed label new c.0 c.1)
+
+    ends_pass : (ls : List ℕ) → ls ≡ map (λ (b : Block). b.label) new → BlocksPass (env_of p f) (functions_by_name p.functions) f.blocks → EndsPass ls 0 f.blocks
+    ends_pass ls e h j m b found same t slot label listed =
+        let here : slice_get f.blocks m ≡ Some b = subst (λ z. slice_get f.blocks z ≡ Some b) (omega (arith, same)) found in
+        let passes : s.ending (env_of p f) (end m b.end) ≡ Ok tt = at_passes_end b.end _ (block_passes f.blocks m b h here).end in
+        label_kept ls label e (ending_listed (env_of p f) (end m b.end) passes slot label listed) (kept _ (linked m b slot label (reaches m t) here listed))
+
+    some_new : (bs : List Block) → d.has_blocks bs ≡ true → (t : Bool) → t ≡ keep 0 → t ≡ true → d.has_blocks (new_blocks put end keep 0 bs) ≡ true
+    some_new [] h t e k = cc
+    some_new (b ∷ bs) h t e k = rw (sym e ∙ k) refl
+
+    -- the folded function passes
+    pub one_passes : (number index : ℕ) → d.one_function (known_env p.structs (globals_by_name p.globals)) (functions_by_name p.functions) number f ≡ Ok tt →
+        d.one_function (known_env p.structs (globals_by_name p.globals)) names index (record f { blocks = new }) ≡ Ok tt
+    unfolding d.one_function
+    one_passes number index h =
+        let known : Env = known_env p.structs (globals_by_name p.globals) in
+        let a = first_passed (at _ (d.own known (functions_by_name p.functions) f)) _ tt h in
+        let own = at_passed _ (d.own known (functions_by_name p.functions) f) a.0 a.1 in
+        let sight = sees known a.0 (functions_by_name p.functions) f own in
+        let same : a.0 ≡ env_of p f = sight.same in
+        let blocks : BlocksPass (env_of p f) (functions_by_name p.functions) f.blocks = subst (λ e. BlocksPass e (functions_by_name p.functions) f.blocks) same (blocks_pass a.0 (functions_by_name p.functions) number 1 f.blocks a.2) in
+        let old = labels_of_function known a.0 (functions_by_name p.functions) f own in
+        let ls = labels_kept put end keep 0 [] [] old.0 f.blocks (λ l q. q) old.1 in
+        let are : ls.0 ≡ map (λ (b : Block). b.label) new = labels_are [] ls.0 new ls.1 in
+        let seen : d.own known names (record f { blocks = new }) ≡ Ok (relabelled (env_of p f) ls.0) =
+        own_same names (functions_by_name p.functions) heads known (record f { blocks = new })
+        ∙ own_folded known (env_of p f) (functions_by_name p.functions) f new ls.0 (own ∙ ap Ok same) (some_new f.blocks sight.some (keep 0) refl (kept 0 first)) ls.1 in
+        both_pass (at (site.Statement index 0) (d.own known names (record f { blocks = new }))) _ (relabelled (env_of p f) ls.0) tt (at_passes _ (d.own known names (record f { blocks = new })) _ seen)
+        (blocks_new ls.0 index 1 0 f.blocks blocks (ends_pass ls.0 are blocks))
+
+-- ---- the whole program
+
+pub fold_is_accepted : FoldIsAccepted
+unfolding first_fault checked
+fold_is_accepted p n f facts most ts xs g folds =
+    let a : Parts p = parts p folds.values.accepted in
+    let known : Env = known_env p.structs (globals_by_name p.globals) in
+    let gs : List Function = slice_set p.functions n g in
+    let alike : Alike p.functions gs = set_faces p.functions n f g folds.own (ap face folds.folded.is) in
+    let heads : SameHeads (functions_by_name gs) (functions_by_name p.functions) = tables_alike p.functions gs alike in
+    let table = heads_alike (globals_by_name p.globals) 0 [] [] (functions_by_name p.functions) p.functions gs alike (λ name. refl) a.heads in
+    let table_is : table.0 ≡ functions_by_name gs = heads_are (globals_by_name p.globals) 0 [] table.0 gs table.1 in
+    let one = function_at known (functions_by_name p.functions) 0 p.functions n f a.functions folds.own in
+    let folded : (k : ℕ) → d.one_function known (functions_by_name gs) k g ≡ Ok tt = λ k.
+    subst (λ (z : Function). d.one_function known (functions_by_name gs) k z ≡ Ok tt) (sym folds.folded.is)
+    (one_passes p n f facts most ts (values_at (body_of p n f facts most ts) f.blocks xs) (functions_by_name gs) heads folds.folded.keep (λ k. (folds.folded.kept k).1) (λ k. (folds.folded.kept k).0) one.0 k one.1) in
+    no_fault_of (checked (replaced p n g))
+    (both_pass (d.structs p.structs 0 [] p.structs) _ tt tt a.structs
+    (both_pass (d.globals p.structs (globals_by_name p.globals) 0 [] p.globals) _ (globals_by_name p.globals) tt a.globals
+    (both_pass (d.heads (globals_by_name p.globals) 0 [] gs) _ (functions_by_name gs) tt (table.1 ∙ ap Ok table_is)
+    (both_pass (d.main 0 gs) _ tt tt (main_alike 0 p.functions gs alike ∙ a.main)
+    (functions_set known (functions_by_name gs) (functions_by_name p.functions) 0 p.functions n f g heads folds.own a.functions folded)))))

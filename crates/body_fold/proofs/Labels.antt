@@ -1,0 +1,89 @@
+-- The labels of the blocks that are kept.
+use Rattle.std.proofs.Common.{◌≡◌, ℕ, zero, suc, ◌+◌, ◌==◌, Bool, true, false, not, cond, ◌||◌, if◌then◌else◌, List, [], ◌∷◌, ◌++◌, map, refl, sym, ◌∙◌, ap, subst, Option, Some, None, Ok, slice_get}
+use Rattle.std.specs.List.{list_any, find}
+use Rattle.std.proofs.lemmas.Bool.{eqb-true, eq-eqb}
+use Rattle.gimple_ir.specs.declared.statement.Stmt.{Stmt}
+use Rattle.gimple_ir.specs.declared.block.Block.{Block}
+use Rattle.gimple_ir.specs.declared.block.End.{End}
+use Rattle.gimple_core.specs.Run.{block_at}
+use Rattle.gimple_core.specs.Verdict.{demand}
+use Rattle.gimple_core.specs.Declarations as d
+use Rattle.gimple_core.proofs.Passed.{first_passed, both_pass, demanded, demand_passes}
+use Rattle.gimple_claims.specs.Kept.{new_body, new_blocks}
+use Rattle.gimple_claims.proofs.Checked.{ok_same}
+
+abbrev Lists : List ℕ → ℕ → Bool
+Lists ls l = list_any (λ m. l == m) ls
+
+-- ---- a label that is listed has a block, and the other way
+
+labelled_by : (to : ℕ) (b : Block) (bs : List Block) → (Lists (map (λ b. b.label) bs) to ≡ true → (c : Block) × (block_at to bs ≡ Some c)) →
+    (x : Bool) → (b.label == to) ≡ x → (y : Bool) → (to == b.label) ≡ y → y || Lists (map (λ b. b.label) bs) to ≡ true → (c : Block) × ((if x then Some b else block_at to bs) ≡ Some c)
+labelled_by to b bs more true e y f h = (b, refl)
+labelled_by to b bs more false e true f h = let there : (b.label == to) ≡ true = eq-eqb b.label to (sym (eqb-true to b.label f)) in cc
+labelled_by to b bs more false e false f h = more h
+
+pub labelled : (to : ℕ) (bs : List Block) → Lists (map (λ (b : Block). b.label) bs) to ≡ true → (b : Block) × (block_at to bs ≡ Some b)
+labelled to [] h = cc
+labelled to (b ∷ bs) h = labelled_by to b bs (labelled to bs) (b.label == to) refl (to == b.label) refl h
+
+either : (a b : Bool) → b ≡ true → a || b ≡ true
+either true b h = refl
+either false b h = h
+
+pub block_listed : (to : ℕ) (bs : List Block) (b : Block) → block_at to bs ≡ Some b → Lists (map (λ (c : Block). c.label) bs) to ≡ true
+block_listed to [] b e = cc
+block_listed to (x ∷ xs) b e = by (x.label == to) refl e (block_listed to xs b)
+  where
+    by : (t : Bool) → (x.label == to) ≡ t → (if t then Some x else block_at to xs) ≡ Some b → (block_at to xs ≡ Some b → Lists (map (λ (c : Block). c.label) xs) to ≡ true) → (to == x.label) || Lists (map (λ (c : Block). c.label) xs) to ≡ true
+    by true t f more = rw (eq-eqb to x.label (sym (eqb-true x.label to t))) refl
+    by false t f more = either (to == x.label) (Lists (map (λ (c : Block). c.label) xs) to) (more f)
+
+-- ---- kept labels differ where all do
+
+any_append : (l : ℕ) (xs ys : List ℕ) → Lists (xs ++ ys) l ≡ Lists xs l || Lists ys l
+any_append l [] ys = refl
+any_append l (x ∷ xs) ys = by (l == x) (any_append l xs ys)
+  where
+    by : (b : Bool) → Lists (xs ++ ys) l ≡ Lists xs l || Lists ys l → b || Lists (xs ++ ys) l ≡ (b || Lists xs l) || Lists ys l
+    by true e = refl
+    by false e = e
+
+abbrev Within : List ℕ → List ℕ → Type 0
+Within some more = (l : ℕ) → Lists some l ≡ true → Lists more l ≡ true
+
+within_more : (some more : List ℕ) (x : ℕ) → Within some more → Within some (more ++ x ∷ [])
+within_more some more x w l h = any_append l more (x ∷ []) ∙ rw (w l h) refl
+
+within_both : (some more : List ℕ) (x : ℕ) → Within some more → Within (some ++ x ∷ []) (more ++ x ∷ [])
+within_both some more x w l h = any_append l more (x ∷ []) ∙ by (Lists some l) (Lists more l) (Lists (x ∷ []) l) (w l) (sym (any_append l some (x ∷ [])) ∙ h)
+  where
+    by : (a b c : Bool) → (a ≡ true → b ≡ true) → a || c ≡ true → b || c ≡ true
+    by true b c f k = rw (f refl) refl
+    by false true c f k = refl
+    by false false c f k = k
+
+lacks : (a b : Bool) → (a ≡ true → b ≡ true) → not b ≡ true → not a ≡ true
+lacks true b f k = let e = f refl in cc
+lacks false b f k = refl
+
+module _ (put : ℕ → ℕ → Stmt → Stmt) (end : ℕ → End → End) (keep : ℕ → Bool) where
+  new_label_passes : (some more out : List ℕ) (x : ℕ) → Within some more → d.new_label more x ≡ Ok out → (d.new_label some x ≡ Ok (some ++ x ∷ [])) × (out ≡ more ++ x ∷ [])
+  unfolding d.new_label
+  new_label_passes some more out x w h =
+      let a = first_passed (demand (not (Lists more x)) 9) _ out h in
+      (both_pass (demand (not (Lists some x)) 9) _ tt _ (demand_passes _ 9 (lacks (Lists some x) (Lists more x) (w x) (demanded _ 9 a.1))) refl, sym (ok_same a.2))
+
+  pub labels_kept : (k : ℕ) (some more out : List ℕ) (bs : List Block) → Within some more → d.labels more bs ≡ Ok out → (ls : List ℕ) × (d.labels some (new_blocks put end keep k bs) ≡ Ok ls)
+  unfolding d.labels
+  labels_kept k some more out [] w h = (some, refl)
+  labels_kept k some more out (b ∷ bs) w h =
+      let a = first_passed (d.new_label more b.label) _ out h in
+      let n = new_label_passes some more a.0 b.label w a.1 in
+      let rest : d.labels (more ++ b.label ∷ []) bs ≡ Ok out = subst (λ ls. d.labels ls bs ≡ Ok out) n.1 a.2 in
+      by (keep k) n.0 (labels_kept (k + 1) (some ++ b.label ∷ []) (more ++ b.label ∷ []) out bs (within_both some more b.label w) rest) (labels_kept (k + 1) some (more ++ b.label ∷ []) out bs (within_more some more b.label w) rest)
+    where
+      by : (t : Bool) → d.new_label some b.label ≡ Ok (some ++ b.label ∷ []) → (ls : List ℕ) × (d.labels (some ++ b.label ∷ []) (new_blocks put end keep (k + 1) bs) ≡ Ok ls) → (ls : List ℕ) × (d.labels some (new_blocks put end keep (k + 1) bs) ≡ Ok ls) →
+          (ls : List ℕ) × (d.labels some (if t then record { label = b.label; body = new_body put k 0 b.body; end = end k b.end } ∷ new_blocks put end keep (k + 1) bs else new_blocks put end keep (k + 1) bs) ≡ Ok ls)
+      by true e x y = (x.0, both_pass (d.new_label some b.label) _ (some ++ b.label ∷ []) x.0 e x.1)
+      by false e x y = y
