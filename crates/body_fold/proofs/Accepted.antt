@@ -13,9 +13,9 @@ use Rattle.gimple_ir.specs.declared.program.Function.{Function}
 use Rattle.gimple_ir.specs.declared.program.Program.{Program}
 use Rattle.gimple_ir.specs.declared.fault.Site.TheVariants as site
 use Rattle.gimple_core.specs.Names.{same_name}
-use Rattle.gimple_core.specs.Run.{function_named, main_name, block_at, block_place, place_or}
+use Rattle.gimple_core.specs.Run.{main_name, block_place, place_or}
 use Rattle.gimple_core.specs.Verdict.{◌>>◌, demand, at}
-use Rattle.gimple_core.specs.Env.{Env, Names, has, named, declared, globals_by_name, functions_by_name}
+use Rattle.gimple_core.specs.Env.{Env, Names, has, globals_by_name, functions_by_name}
 use Rattle.gimple_core.specs.Statements as s
 use Rattle.gimple_core.specs.Declarations as d
 use Rattle.gimple_core.specs.Accepted.{checked, first_fault, known_env}
@@ -31,11 +31,11 @@ use Rattle.fix_engine.specs.declared.lifted.Lifted.{Lifted}
 use Rattle.fix_engine.specs.declared.lifted.Lifted.TheVariants.{NotReached, Reached}
 use Rattle.value_domain.specs.declared.abs_val.AbsVal.{AbsVal}
 use Rattle.body_values.specs.declared.facts.Facts.{Facts}
-use Rattle.body_values.specs.Flow.{body_of, labels_of, values_at}
-use Rattle.body_fold.specs.Fold.{Folding, stmt_at, end_at, new_stmt, new_end, IsLinked, first, linked, IsFolded}
-use Rattle.body_fold.specs.Claims.{replaced, folding_of, Folds, FoldIsAccepted}
+use Rattle.body_values.specs.Flow.{body_of, values_at}
+use Rattle.body_fold.specs.Fold.{Folding, stmt_at, end_at, new_stmt, new_end, IsLinked, first, linked}
+use Rattle.body_fold.specs.Claims.{replaced, folding_of, FoldIsAccepted}
 use Rattle.body_fold.proofs.Names.{Parts, parts, function_at}
-use Rattle.body_fold.proofs.Relabelled.{relabelled, statement_re, head_of, heads_of, SameHeads, statement_heads, own_same, function_same}
+use Rattle.body_fold.proofs.Relabelled.{relabelled, statement_re, heads_of, SameHeads, statement_heads, own_same, function_same}
 use Rattle.body_fold.proofs.Sees.{sees, blocks_pass}
 use Rattle.body_fold.proofs.Passing.{stmt_passes, end_passes, LabelsPass, ending_listed, ending_re}
 use Rattle.body_fold.proofs.Labels.{labelled, block_listed, labels_kept}
@@ -107,9 +107,11 @@ heads_alike globals number some more out (f ∷ fs) (g ∷ gs) e t h =
     let c = declared_new more f.name f a.0 b.2 in
     let names : f.name ≡ g.name = ap (λ (x : Face). x.name) (heads_same f g fs gs e) in
     let fresh : has g.name some ≡ false = t g.name ∙ (ap (λ n. has n more) (sym names) ∙ c.0) in
-    let rest = heads_alike globals (number + 1) (some ++ (g.name, g) ∷ []) (more ++ (f.name, f) ∷ []) out fs gs (ap later_faces e) (grown names) (subst (λ z. d.heads globals (number + 1) z fs ≡ Ok out) c.1 a.2) in
-    (rest.0, both_pass (at (site.Statement number 0) (d.head globals some g)) _ (some ++ (g.name, g) ∷ []) rest.0
-      (at_passes _ (d.head globals some g) _ (both_pass (demand (not (has g.name globals)) 2) _ tt _ (ap (λ n. demand (not (has n globals)) 2) (sym names) ∙ b.1) (declares some g.name g fresh))) rest.1)
+    let rest = heads_alike globals (number + 1) (some ++ (g.name, g) ∷ []) (more ++ (f.name, f) ∷ []) out fs gs (ap later_faces e) (grown names) (subst (λ z. d.heads globals (number + 1) z fs ≡ Ok out) c.1 a.2) in (
+      rest.0,
+      both_pass (at (site.Statement number 0) (d.head globals some g)) _ (some ++ (g.name, g) ∷ []) rest.0
+          (at_passes _ (d.head globals some g) _ (both_pass (demand (not (has g.name globals)) 2) _ tt _ (ap (λ n. demand (not (has n globals)) 2) (sym names) ∙ b.1) (declares some g.name g fresh))) rest.1,
+    )
   where
     grown : f.name ≡ g.name → (name : List ℕ) → has name (some ++ (g.name, g) ∷ []) ≡ has name (more ++ (f.name, f) ∷ [])
     grown names name = has_append name some ((g.name, g) ∷ []) ∙ (λ i. t name i || one_named f g names name i) ∙ sym (has_append name more ((f.name, f) ∷ []))

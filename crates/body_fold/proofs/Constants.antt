@@ -1,6 +1,5 @@
 -- Constants and their operands.
-use Rattle.std.proofs.Common.{◌≡◌, ℕ, ℤ, pos, ◌+ℤ◌, Bool, true, false, if◌then◌else◌, List, [], ◌∷◌, refl, sym, ◌∙◌, ap, subst, Option, Some, None, Result, Ok, Err, slice_get}
-use Rattle.std.specs.List.{position}
+use Rattle.std.proofs.Common.{◌≡◌, ℕ, ℤ, pos, ◌+ℤ◌, Bool, true, false, if◌then◌else◌, List, refl, sym, ◌∙◌, ap, subst, Option, Some, None, Ok, Err, slice_get}
 use Rattle.gimple_ir.specs.declared.scalar.Scalar.{Scalar}
 use Rattle.gimple_ir.specs.declared.scalar.Scalar.TheVariants.{I8, I16, I32, I64, U8, U16, U32, U64, Ptr}
 use Rattle.gimple_ir.specs.declared.value.Object.{Object}
@@ -10,15 +9,14 @@ use Rattle.gimple_ir.specs.declared.value.Value.TheVariants.{Int as IntValue, Nu
 use Rattle.gimple_ir.specs.declared.value.Constant.{Constant}
 use Rattle.gimple_ir.specs.declared.value.Constant.TheVariants.{Int, Null, Global}
 use Rattle.gimple_ir.specs.declared.operand.Operand.{Operand}
-use Rattle.gimple_ir.specs.declared.operand.Operand.TheVariants.{Reg, Number, Null as NullOperand, Address}
-use Rattle.gimple_ir.specs.declared.operand.Base.TheVariants.{Reg as RegBase, Variable}
+use Rattle.gimple_ir.specs.declared.operand.Operand.TheVariants.{Number, Null as NullOperand, Address}
+use Rattle.gimple_ir.specs.declared.operand.Base.TheVariants.{Variable}
 use Rattle.gimple_ir.specs.declared.operand.Place.{Place}
 use Rattle.gimple_ir.specs.declared.declarations.Decl.{Decl}
 use Rattle.gimple_ir.specs.declared.declarations.Global.{Global as GlobalDef}
 use Rattle.gimple_core.specs.declared.machine.Cell.{Cell}
 use Rattle.gimple_core.specs.Operators.{in_scalar, wrapped}
 use Rattle.gimple_core.specs.Memory.{moved_by}
-use Rattle.gimple_core.specs.Names.{same_name}
 use Rattle.gimple_core.specs.State.{Scope, number_in, offset_in}
 use Rattle.gimple_core.specs.Run.{value_of, place_value, address_of, address_of_global, global_address}
 use Rattle.gimple_core.specs.Verdict.{Verdict}

@@ -1,13 +1,12 @@
 -- What is known of operands and results is so.
-use Rattle.std.proofs.Common.{◌≡◌, ℕ, ◌+◌, ℤ, pos, Bool, true, false, not, cond, ◌&&◌, ◌||◌, if◌then◌else◌, List, [], ◌∷◌, ◌++◌, length, refl, sym, ◌∙◌, ap, subst, Option, Some, None, Result, Ok, Err, slice_get}
-use Rattle.std.specs.List.{position}
+use Rattle.std.proofs.Common.{◌≡◌, ℕ, ℤ, Bool, true, false, not, cond, ◌&&◌, if◌then◌else◌, List, ◌++◌, length, refl, sym, ◌∙◌, ap, subst, Option, Some, None, Result, Ok, Err}
 use Rattle.gimple_ir.specs.declared.scalar.Scalar.{Scalar}
-use Rattle.gimple_ir.specs.declared.scalar.Scalar.TheVariants.{I8, I16, I32, I64, U8, U16, U32, U64, Ptr}
+use Rattle.gimple_ir.specs.declared.scalar.Scalar.TheVariants.{I32, I64, Ptr}
 use Rattle.gimple_ir.specs.declared.scalar.Op.{Op}
 use Rattle.gimple_ir.specs.declared.scalar.Cmp.{Cmp}
 use Rattle.gimple_ir.specs.declared.value.Object.TheVariants.{Global as GlobalObject}
 use Rattle.gimple_ir.specs.declared.value.Value.{Value}
-use Rattle.gimple_ir.specs.declared.value.Value.TheVariants.{Int as IntValue, Null as NullValue, At}
+use Rattle.gimple_ir.specs.declared.value.Value.TheVariants.{At}
 use Rattle.gimple_ir.specs.declared.value.TrapKind.{TrapKind}
 use Rattle.gimple_ir.specs.declared.value.Constant.{Constant}
 use Rattle.gimple_ir.specs.declared.value.Constant.TheVariants.{Int, Null, Global}
@@ -17,32 +16,28 @@ use Rattle.gimple_ir.specs.declared.operand.Base.{Base}
 use Rattle.gimple_ir.specs.declared.operand.Base.TheVariants.{Reg as RegBase, Variable}
 use Rattle.gimple_ir.specs.declared.operand.Place.{Place}
 use Rattle.gimple_ir.specs.declared.declarations.Register.{Register}
-use Rattle.gimple_ir.specs.declared.statement.Stmt.{Stmt}
-use Rattle.gimple_ir.specs.declared.statement.Stmt.TheVariants.{Copy, Arith, Compare, Convert, Load, Store, Call, Get, Put, Abort}
+use Rattle.gimple_ir.specs.declared.statement.Stmt.TheVariants.{Copy, Arith, Compare, Convert}
 use Rattle.gimple_ir.specs.declared.program.Function.{Function}
 use Rattle.gimple_ir.specs.declared.program.Program.{Program}
 use Rattle.gimple_core.specs.declared.machine.Cell.{Cell}
-use Rattle.gimple_core.specs.Operators.{in_scalar, wrapped}
 use Rattle.gimple_core.specs.Memory.{moved_by}
 use Rattle.gimple_core.specs.State.{Scope, value_in, offset_in}
 use Rattle.gimple_core.specs.Run.{value_of, place_value, address_of_global, global_address, arith_of, compares, one_if, any_number, converted}
-use Rattle.gimple_core.specs.Verdict.{Verdict, ◌>>◌, demand}
+use Rattle.gimple_core.specs.Verdict.{◌>>◌, demand}
 use Rattle.gimple_core.specs.Env.{scalar_of}
 use Rattle.gimple_core.specs.Statements as s
 use Rattle.gimple_core.proofs.Passed.{err_no, first_passed, demanded}
 use Rattle.gimple_core.proofs.RangeLemmas.{wrapped_in}
-use Rattle.gimple_core.proofs.ScalarLemmas.{pointer_is, same_scalar_true}
+use Rattle.gimple_core.proofs.ScalarLemmas.{pointer_is}
 use Rattle.gimple_claims.specs.Laws.{keys, register_keys}
 use Rattle.gimple_claims.specs.Checks.{env_of}
 use Rattle.gimple_claims.specs.Typed.{is_of, cells_typed}
 use Rattle.gimple_claims.proofs.TypedValues.{ValueIs, arith_is, bit_in, int_is, operand_is, has_cell, value_there}
 use Rattle.value_domain.specs.declared.abs_val.AbsVal.{AbsVal}
 use Rattle.value_domain.specs.ConstantOperators.{is_pointer}
-use Rattle.value_domain.specs.AbsOperators.{first_constant, known_of, may_trap_of, top_of, abs_op_of}
-use Rattle.value_domain.specs.Values.{FitsWith}
+use Rattle.value_domain.specs.AbsOperators.{known_of, may_trap_of}
 use Rattle.value_domain.specs.Thresholds.{IsLawful}
 use Rattle.value_domain.specs.Holding.{Holds, constant_of, value_of_scalar}
-use Rattle.value_domain.specs.Laws.{done}
 use Rattle.value_domain.proofs.WholeLemmas.{IsGood}
 use Rattle.value_domain.proofs.KnownLaws.{known_holds}
 use Rattle.value_domain.proofs.TrapLaws.{no_trap}
@@ -54,10 +49,10 @@ use Rattle.body_values.specs.Flow.{body_of}
 use Rattle.body_values.specs.Rows.{RowFits}
 use Rattle.body_values.specs.Rising.{LoadsFit, two, allowed_is}
 use Rattle.body_values.proofs.Held.{typed_is, same_test, RowHolds}
-use Rattle.body_values.proofs.Operands.{Stays, from_begin, local_free}
-use Rattle.body_values.proofs.Stmts.{register, operand, good, arith_holds, SidesHold, sides_hold}
-use Rattle.body_fold.specs.Fold.{value_of_constant, address_in, constant_operand, global_constant, known_register, known_operand, result_constant, one_known, both_known, compared_constant, evaluated, never_traps, known_result, known_comparison, constant_for, place_from, place_on}
-use Rattle.body_fold.proofs.Constants.{constant_is, OffsetFits, offset_fits, offset_same, NamesMean, constant_value, from_value, first_by}
+use Rattle.body_values.proofs.Operands.{from_begin, local_free}
+use Rattle.body_values.proofs.Stmts.{register, operand, good, arith_holds, sides_hold}
+use Rattle.body_fold.specs.Fold.{value_of_constant, constant_operand, global_constant, known_register, known_operand, result_constant, one_known, both_known, compared_constant, evaluated, never_traps, known_result, known_comparison, constant_for, place_from, place_on}
+use Rattle.body_fold.proofs.Constants.{constant_is, OffsetFits, offset_fits, NamesMean, constant_value, from_value, first_by}
 
 not_true : (b : Bool) → not b ≡ true → b ≡ false
 not_true true h = cc
@@ -408,7 +403,7 @@ module _ (p : Program) (n : ℕ) (f : Function) (facts : Facts) (most : ℕ) (ts
   copy_known j i scalar to from e c g =
       let typed : is_of scalar (value from) ≡ true = operand_typed scalar from e in
       let same : value from ≡ value_of_constant c = first_by (known_operand B row from) _ c _ (operand_known from (operand_named p f 4 scalar from e) c)
-          (by_value scalar _ (good p n f facts most ts law serial cells row k t fits h loads scalar from) (value from) c typed (operand_sided scalar from e).holds) g in
+      (by_value scalar _ (good p n f facts most ts law serial cells row k t fits h loads scalar from) (value from) c typed (operand_sided scalar from e).holds) g in
       record { same = same; offset = offset_fits scalar (value from) c typed same }
 
   pub compare_result_known : (j i : ℕ) (scalar : Scalar) (to : List ℕ) (left : Operand) (cmp : Cmp) (other : Operand) → not (s.is_pointer scalar) ≡ true → s.compared (env_of p f) left cmp other ≡ Ok tt → (c : Constant) → known_result B j i row scalar (Compare to left cmp other) ≡ Some c →
@@ -416,8 +411,8 @@ module _ (p : Program) (n : ℕ) (f : Function) (facts : Facts) (most : ℕ) (ts
   unfolding known_result evaluated never_traps result_value
   compare_result_known j i scalar to left cmp other q e c g =
       let same : one_if (compares (value left) cmp (value other)) ≡ value_of_constant c =
-          first_by (compared_constant B row left cmp other) _ c _ (compared_known left cmp other e c)
-          (compare_known scalar left cmp other e q (compare_good scalar (sides_scalar B left other) left cmp other) c) g in
+      first_by (compared_constant B row left cmp other) _ c _ (compared_known left cmp other e c)
+      (compare_known scalar left cmp other e q (compare_good scalar (sides_scalar B left other) left cmp other) c) g in
       record { same = same; offset = offset_fits scalar _ c (bit_in scalar (compares (value left) cmp (value other)) q) same }
 
   convert_evaluated : (target scalar : Scalar) (from : Operand) → s.integer (env_of p f) from ≡ Ok scalar → (c : Constant) → one_known (known_operand B row from) (λ v. constant_of (converted target v)) ≡ Some c → converted target (value from) ≡ value_of_constant c
@@ -431,8 +426,8 @@ module _ (p : Program) (n : ℕ) (f : Function) (facts : Facts) (most : ℕ) (ts
   convert_known j i target scalar to from q e c g =
       let typed : is_of target (converted target (value from)) ≡ true = int_is target _ q (wrapped_in target (any_number (value from))) in
       let same : converted target (value from) ≡ value_of_constant c =
-          first_by _ _ c _ (convert_evaluated target scalar from e c)
-          (by_value target _ (convert_good target (source_scalar B from) from) (converted target (value from)) c typed (convert_holds target scalar from e typed)) g in
+      first_by _ _ c _ (convert_evaluated target scalar from e c)
+      (by_value target _ (convert_good target (source_scalar B from) from) (converted target (value from)) c typed (convert_holds target scalar from e typed)) g in
       record { same = same; offset = offset_fits target _ c typed same }
 
   -- ---- places

@@ -4,7 +4,6 @@ use Rattle.std.specs.Prelude.{is_some}
 use Rattle.std.specs.List.{position_or_len}
 use Rattle.std.specs.Str.{bytes_eq}
 use Rattle.std.proofs.lemmas.Option.{slice_get_within}
-use Rattle.std.specs.Cmp.Lexicographic.{bytes_decides}
 use Rattle.gimple_ir.specs.declared.declarations.Register.{Register}
 use Rattle.gimple_ir.specs.declared.declarations.Decl.{Decl}
 use Rattle.gimple_ir.specs.declared.declarations.StructDef.{StructDef}
@@ -22,7 +21,7 @@ use Rattle.gimple_core.proofs.EnvLemmas.{same_test, has_append, declared_new}
 use Rattle.gimple_core.proofs.KeptAccepted.{heads_are}
 use Rattle.gimple_claims.proofs.Checked.{ok_same, globals_made}
 use Rattle.body_values.specs.Bodies.{is_local, global_place}
-use Rattle.body_fold.proofs.Constants.{Means, NamesMean}
+use Rattle.body_fold.proofs.Constants.{NamesMean}
 
 -- ---- the globals have names of their own
 

@@ -1,5 +1,5 @@
 -- A folded statement passes its checks, and a folded end too.
-use Rattle.std.proofs.Common.{◌≡◌, ℕ, zero, suc, ◌+◌, ◌==◌, Bool, true, false, not, cond, ◌&&◌, if◌then◌else◌, List, [], ◌∷◌, ◌++◌, map, length, refl, sym, ◌∙◌, ap, subst, Option, Some, None, Result, Ok, Err, slice_get}
+use Rattle.std.proofs.Common.{◌≡◌, ℕ, zero, suc, ◌==◌, Bool, true, false, not, if◌then◌else◌, List, [], ◌∷◌, ◌++◌, map, length, refl, sym, ◌∙◌, ap, subst, Option, Some, None, Ok, Err, slice_get}
 use Rattle.std.specs.List.{find, position_or_len}
 use Rattle.std.proofs.lemmas.List.{map-append}
 use Rattle.std.proofs.lemmas.List.Folds.{find_at}
@@ -20,22 +20,20 @@ use Rattle.gimple_ir.specs.declared.program.Function.{Function}
 use Rattle.gimple_ir.specs.declared.program.Program.{Program}
 use Rattle.gimple_core.specs.Memory.{same_scalar}
 use Rattle.gimple_core.specs.Names.{same_name}
-use Rattle.gimple_core.specs.Run.{case_for, case_target, any_number}
+use Rattle.gimple_core.specs.Run.{case_target, any_number}
 use Rattle.gimple_core.specs.Verdict.{Verdict, ◌>>◌, demand, found}
-use Rattle.gimple_core.specs.Env.{Env, Names, named, registers_by_name, scalar_of}
+use Rattle.gimple_core.specs.Env.{Env, named, registers_by_name, scalar_of}
 use Rattle.gimple_core.specs.Statements as s
-use Rattle.gimple_core.proofs.Passed.{first_passed, both_pass, demanded, demand_passes, found_so}
+use Rattle.gimple_core.proofs.Passed.{first_passed, both_pass, found_so}
 use Rattle.gimple_core.proofs.EnvLemmas.{named_find}
 use Rattle.gimple_core.specs.Operators.{cmp_of}
 use Rattle.gimple_ir.specs.declared.scalar.Cmp.TheVariants.{Eq}
 use Rattle.gimple_claims.specs.Checks.{env_of}
 use Rattle.gimple_claims.proofs.Checked.{ok_same}
-use Rattle.fix_engine.specs.declared.lifted.Lifted.{Lifted}
-use Rattle.fix_engine.specs.declared.lifted.Lifted.TheVariants.{NotReached, Reached}
 use Rattle.value_domain.specs.declared.abs_val.AbsVal.{AbsVal}
-use Rattle.body_values.specs.Bodies.{Body, register_scalar, scalar_or, target_of}
+use Rattle.body_values.specs.Bodies.{register_scalar, scalar_or, target_of}
 use Rattle.body_values.specs.Flow.{labels_of}
-use Rattle.body_fold.specs.Fold.{Folding, value_of_constant, constant_operand, known_result, known_comparison, known_operand, constant_for, passes, is_put, put_or, folded_operand, folded_left, folded_right, right_check, formals_of, folded_arguments, place_on, folded_place, stored_place, with_operands, copy_or, with_result, folded_stmt, is_zero, goto_or, case_or, folded_end, stmt_at, end_at}
+use Rattle.body_fold.specs.Fold.{Folding, value_of_constant, known_comparison, known_operand, constant_for, passes, is_put, put_or, folded_operand, folded_left, folded_right, right_check, formals_of, folded_arguments, place_on, folded_place, stored_place, with_operands, copy_or, with_result, folded_stmt, is_zero, goto_or, case_or, folded_end}
 use Rattle.body_fold.proofs.Constants.{put_has}
 use Rattle.body_fold.proofs.Relabelled.{relabelled, returned_re, ends_compared, ends_integer}
 

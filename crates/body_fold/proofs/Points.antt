@@ -1,5 +1,5 @@
 -- A function that is folded, at each point of a run.
-use Rattle.std.proofs.Common.{◌≡◌, ℕ, zero, suc, ◌+◌, ◌==◌, ℤ, Bool, true, false, not, cond, if◌then◌else◌, List, [], ◌∷◌, ◌++◌, map, length, take, append-nil, refl, sym, ◌∙◌, ap, subst, arith, Option, Some, None, Ok, slice_get}
+use Rattle.std.proofs.Common.{◌≡◌, ℕ, suc, ◌==◌, ℤ, Bool, true, false, if◌then◌else◌, List, [], ◌∷◌, ◌++◌, map, length, take, append-nil, refl, sym, ◌∙◌, ap, subst, Option, Some, None, Ok, slice_get}
 use Rattle.std.specs.List.{list_all, find}
 use Rattle.gimple_ir.specs.declared.scalar.Scalar.TheVariants.{I64}
 use Rattle.gimple_ir.specs.declared.operand.Operand.{Operand}
@@ -15,18 +15,17 @@ use Rattle.gimple_ir.specs.declared.program.Function.{Function}
 use Rattle.gimple_ir.specs.declared.program.Program.{Program}
 use Rattle.gimple_core.specs.declared.machine.Cell.{Cell}
 use Rattle.gimple_core.specs.Operators.{in_scalar, cmp_of}
-use Rattle.gimple_core.specs.Operators as operators
 use Rattle.gimple_ir.specs.declared.scalar.Cmp.TheVariants.{Eq}
 use Rattle.gimple_core.specs.Memory.{Memory}
 use Rattle.gimple_core.specs.State.{Control, World, State, Scope, scope_of}
-use Rattle.gimple_core.specs.Run.{Calling, call_of, act, step, resumed, values_of, target_of, block_place, place_or, case_for, case_target, compares, value_of}
-use Rattle.gimple_core.specs.Trace.{Event, told, after}
-use Rattle.gimple_core.specs.Env.{Names, named, functions_by_name}
+use Rattle.gimple_core.specs.Run.{Calling, call_of, act, step, values_of, target_of, block_place, place_or, case_for, case_target, compares, value_of}
+use Rattle.gimple_core.specs.Trace.{Event}
+use Rattle.gimple_core.specs.Env.{named, functions_by_name}
 use Rattle.gimple_core.specs.Statements as s
 use Rattle.gimple_core.specs.Verdict.{found, demand}
 use Rattle.gimple_core.proofs.Passed.{first_passed, found_so}
-use Rattle.gimple_claims.specs.Bodies.{FactsClaim, StateAt, IsAt, file_at, body_of as statements_of}
-use Rattle.gimple_claims.specs.Exits.{Exit, ToLabel, Returns, exit_of}
+use Rattle.gimple_claims.specs.Bodies.{FactsClaim, IsAt, file_at, body_of as statements_of}
+use Rattle.gimple_claims.specs.Exits.{ToLabel, exit_of}
 use Rattle.gimple_claims.specs.Checks.{env_of, StmtsPass}
 use Rattle.gimple_claims.specs.Laws.{keys, register_keys}
 use Rattle.gimple_claims.specs.Typed.{cells_typed}
@@ -38,10 +37,10 @@ use Rattle.gimple_claims.proofs.Registers.{registers_are_declared}
 use Rattle.gimple_claims.proofs.Typed.{values_are_typed}
 use Rattle.gimple_claims.proofs.Activation.{Activation, here}
 use Rattle.fix_engine.specs.declared.lifted.Lifted.{Lifted}
-use Rattle.fix_engine.specs.declared.lifted.Lifted.TheVariants.{NotReached, Reached}
+use Rattle.fix_engine.specs.declared.lifted.Lifted.TheVariants.{Reached}
 use Rattle.value_domain.specs.declared.abs_val.AbsVal.{AbsVal}
 use Rattle.body_values.specs.declared.facts.Facts.{Facts}
-use Rattle.body_values.specs.Bodies.{Body, after_body}
+use Rattle.body_values.specs.Bodies.{after_body}
 use Rattle.body_values.specs.Flow.{body_of, labels_of, body_at, value_or, values_at}
 use Rattle.body_values.specs.Rows.{RowFits}
 use Rattle.body_values.specs.Rising.{LoadsFit}
@@ -51,7 +50,7 @@ use Rattle.body_values.proofs.Held.{RowHolds}
 use Rattle.body_values.proofs.OneRun.{each_before}
 use Rattle.body_values.proofs.Points.{F, sol, is_at}
 use Rattle.body_values.proofs.Solved.{to_option, reached_is, carried_is}
-use Rattle.body_fold.specs.Fold.{Folding, known_result, evaluated, never_traps, constant_operand, folded_arguments, formals_of, with_operands, folded_stmt, folded_end, new_stmt, new_end, stmt_at, end_at, IsLinked, first, linked, IsFolded}
+use Rattle.body_fold.specs.Fold.{Folding, known_result, evaluated, never_traps, constant_operand, folded_arguments, formals_of, with_operands, folded_stmt, folded_end, new_stmt, new_end, stmt_at, end_at, IsLinked, first, linked}
 use Rattle.body_fold.specs.Claims.{folding_of, Folds}
 use Rattle.body_fold.proofs.Constants.{NamesMean}
 use Rattle.body_fold.proofs.Statements.{exit_at, exit_is, stmt_acts, arguments_put, end_leads}
@@ -192,9 +191,9 @@ module _ (p : Program) (n : ℕ) (f : Function) (facts : Facts) (most : ℕ) (ts
       let a : IsHere st = is_here past st c same in
       subst (λ v. (call_of (stmt_at S st.top.block st.top.index x v) ≡ None) × (act p.globals (scope_of st.top) (stmt_at S st.top.block st.top.index x v) st.world ≡ act p.globals (scope_of st.top) x st.world)) (sym a.reached)
       (subst (λ (h : Function). RowFits most ts (length (h.params ++ h.registers)) a.row → LoadsFit (body_of p n h facts most ts) → NamesMean p.globals h.locals →
-          (call_of (folded_stmt (folding_of p n h facts most ts) st.top.block st.top.index a.row x) ≡ None) × (act p.globals (scope_of st.top) (folded_stmt (folding_of p n h facts most ts) st.top.block st.top.index a.row x) st.world ≡ act p.globals (scope_of st.top) x st.world)) same
+      (call_of (folded_stmt (folding_of p n h facts most ts) st.top.block st.top.index a.row x) ≡ None) × (act p.globals (scope_of st.top) (folded_stmt (folding_of p n h facts most ts) st.top.block st.top.index a.row x) st.world ≡ act p.globals (scope_of st.top) x st.world)) same
       (λ fits loads mean.
-        stmt_acts p n st.top.function facts most ts folds.values.lawful st.top.serial st.world a.row (declared past st c) (typed past st c) fits a.holds loads mean st.top.block st.top.index (functions_by_name p.functions) x (passes past st c x rest e) uncalled)
+      stmt_acts p n st.top.function facts most ts folds.values.lawful st.top.serial st.world a.row (declared past st c) (typed past st c) fits a.holds loads mean st.top.block st.top.index (functions_by_name p.functions) x (passes past st c x rest e) uncalled)
       a.fits loads mean)
 
   -- a call, and the call that stands for it
@@ -225,9 +224,9 @@ module _ (p : Program) (n : ℕ) (f : Function) (facts : Facts) (most : ℕ) (ts
         is = ap call_of there;
         values_same = subst (λ (h : Function). RowFits most ts (length (h.params ++ h.registers)) a.row → LoadsFit (body_of p n h facts most ts) → NamesMean p.globals h.locals →
             values_of p.globals (scope_of st.top) st.world.cells (folded_arguments (folding_of p n h facts most ts) a.row (formals_of (named d.callee (functions_by_name p.functions))) d.arguments) ≡ values_of p.globals (scope_of st.top) st.world.cells d.arguments) same
-        (λ fits loads mean. arguments_same st a.row d st.top.function checked
-          (λ formals q. arguments_put p n st.top.function facts most ts folds.values.lawful st.top.serial st.world a.row (declared past st c) (typed past st c) fits a.holds loads mean formals d.arguments q))
-        a.fits loads mean;
+            (λ fits loads mean. arguments_same st a.row d st.top.function checked
+            (λ formals q. arguments_put p n st.top.function facts most ts folds.values.lawful st.top.serial st.world a.row (declared past st c) (typed past st c) fits a.holds loads mean formals d.arguments q))
+            a.fits loads mean;
       }
 
   pub call_here : (past : List Event) (st : State) (x : Stmt) (rest : List Stmt) (d : Calling) → Comes p input past st → st.top.function ≡ f → st.top.rest ≡ x ∷ rest → call_of x ≡ Some d → Calls st x (new_stmt S values st.top.block st.top.index x) d
@@ -247,7 +246,7 @@ module _ (p : Program) (n : ℕ) (f : Function) (facts : Facts) (most : ℕ) (ts
       let a : IsHere st = is_here past st c same in
       ap (exit_at p.globals (scope_of st.top) st.world.cells) (end_value st a e)
       ∙ (subst (λ (h : Function). RowFits most ts (length (h.params ++ h.registers)) a.row → LoadsFit (body_of p n h facts most ts) → NamesMean p.globals h.locals →
-          exit_at p.globals (scope_of st.top) st.world.cells (folded_end (folding_of p n h facts most ts) a.row st.top.end) ≡ exit_at p.globals (scope_of st.top) st.world.cells st.top.end) same
+      exit_at p.globals (scope_of st.top) st.world.cells (folded_end (folding_of p n h facts most ts) a.row st.top.end) ≡ exit_at p.globals (scope_of st.top) st.world.cells st.top.end) same
       (λ fits loads mean. end_leads p n st.top.function facts most ts folds.values.lawful st.top.serial st.world a.row (declared past st c) (typed past st c) fits a.holds loads mean st.top.end (stands p folds.values.accepted input past st c).top.end)
       a.fits loads mean
       ∙ sym (exit_is p.globals st.top.end st))

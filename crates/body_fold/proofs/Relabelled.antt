@@ -1,5 +1,5 @@
 -- The checks of statements look at neither labels nor the bodies of callees.
-use Rattle.std.proofs.Common.{◌≡◌, ℕ, ◌+◌, ◌==◌, Bool, true, false, not, cond, ◌&&◌, if◌then◌else◌, List, [], ◌∷◌, ◌++◌, length, refl, sym, ◌∙◌, ap, subst, Option, Some, None, Result, Ok, Err, slice_get}
+use Rattle.std.proofs.Common.{◌≡◌, ℕ, ◌+◌, ◌==◌, not, cond, ◌&&◌, List, [], ◌∷◌, length, refl, sym, ◌∙◌, ap, Option, Some, None}
 use Rattle.std.specs.Prelude.{is_some}
 use Rattle.gimple_ir.specs.declared.scalar.Scalar.{Scalar}
 use Rattle.gimple_ir.specs.declared.scalar.Scalar.TheVariants.{I64, Ptr}
@@ -13,17 +13,14 @@ use Rattle.gimple_ir.specs.declared.declarations.Register.{Register}
 use Rattle.gimple_ir.specs.declared.declarations.Decl.{Decl}
 use Rattle.gimple_ir.specs.declared.statement.Stmt.{Stmt}
 use Rattle.gimple_ir.specs.declared.statement.Stmt.TheVariants.{Copy, Arith, Compare, Convert, Load, Store, Call, Get, Put, Abort}
-use Rattle.gimple_ir.specs.declared.block.End.{End}
-use Rattle.gimple_ir.specs.declared.block.End.TheVariants.{Goto, If, Switch, Return}
 use Rattle.gimple_ir.specs.declared.block.Block.{Block}
 use Rattle.gimple_ir.specs.declared.program.Function.{Function}
 use Rattle.gimple_ir.specs.declared.fault.Site.TheVariants as site
 use Rattle.gimple_core.specs.Memory.{same_scalar}
-use Rattle.gimple_core.specs.Verdict.{Verdict, ◌>>=◌, ◌>>◌, pure, demand, found, at}
+use Rattle.gimple_core.specs.Verdict.{◌>>=◌, ◌>>◌, pure, demand, found, at}
 use Rattle.gimple_core.specs.Env.{Env, Names, has, named, declared, structs_by_name, scalar_of}
 use Rattle.gimple_core.specs.Statements as s
 use Rattle.gimple_core.specs.Declarations as d
-use Rattle.gimple_core.proofs.Passed.{first_passed, both_pass}
 
 -- the same but for its labels
 abbrev pub relabelled : Env → List ℕ → Env
@@ -215,7 +212,7 @@ module _ (names more : Names Function) (e : SameHeads names more) where
   unfolding d.own
   own_same known f =
       λ i. registers_same (record known { locals = []; registers = []; labels = []; result = f.result }) f.params i >>= (λ a. locals_same a f.locals i >>= (λ b. registers_same b f.registers i >>= (λ third.
-        demand (d.has_blocks f.blocks) 10 >> (d.labels [] f.blocks >>= (λ targets. pure (record third { labels = targets }))))))
+      demand (d.has_blocks f.blocks) 10 >> (d.labels [] f.blocks >>= (λ targets. pure (record third { labels = targets }))))))
 
   body_same : (env : Env) (index number : ℕ) (xs : List Stmt) → s.body env names index number xs ≡ s.body env more index number xs
   unfolding s.body

@@ -1,5 +1,5 @@
 -- A program with one function folded runs as the program does.
-use Rattle.std.proofs.Common.{◌≡◌, ℕ, zero, suc, ◌+◌, ◌==◌, ℤ, Bool, true, false, not, cond, if◌then◌else◌, List, [], ◌∷◌, ◌++◌, refl, sym, ◌∙◌, ap, subst, Option, Some, None, slice_get, slice_set, arith}
+use Rattle.std.proofs.Common.{◌≡◌, ℕ, zero, suc, ◌+◌, ◌==◌, ℤ, Bool, true, false, if◌then◌else◌, List, [], ◌∷◌, refl, sym, ◌∙◌, ap, subst, Option, Some, None, slice_get, slice_set, arith}
 use Rattle.std.specs.List.{list_all, find, position_or_len}
 use Rattle.std.proofs.lemmas.List.Folds.{find_at}
 use Rattle.std.proofs.lemmas.Bool.{eqb-true, eq-eqb}
@@ -11,13 +11,13 @@ use Rattle.gimple_ir.specs.declared.program.Function.{Function}
 use Rattle.gimple_ir.specs.declared.program.Program.{Program}
 use Rattle.gimple_core.specs.Names.{same_name}
 use Rattle.gimple_core.specs.Operators.{in_scalar}
-use Rattle.gimple_core.specs.State.{State, scope_of}
-use Rattle.gimple_core.specs.Run.{Calling, call_of, act, values_of, function_named, main_name, block_at, block_place, place_or, Run}
-use Rattle.gimple_core.specs.Trace.{Event, main_entry, told, after}
+use Rattle.gimple_core.specs.State.{State}
+use Rattle.gimple_core.specs.Run.{Calling, function_named, main_name, block_at, block_place, place_or, Run}
+use Rattle.gimple_core.specs.Trace.{Event, main_entry}
 use Rattle.gimple_claims.specs.Bodies.{FactsClaim}
 use Rattle.gimple_claims.specs.Exits.{ToLabel, exit_of}
 use Rattle.gimple_claims.specs.Kept.{new_body, new_blocks}
-use Rattle.gimple_claims.specs.Instances.{Instances, instance, body_from, IsMade, AreMade, BeginAlike, EntersInstance, CalleesAlike, StandsFor, MainsAlike, Specialises}
+use Rattle.gimple_claims.specs.Instances.{Instances, instance, body_from, IsMade, AreMade, BeginAlike, CalleesAlike, StandsFor, MainsAlike, Specialises}
 use Rattle.gimple_claims.proofs.Comes.{Comes}
 use Rattle.gimple_claims.proofs.Instances.{instances_run}
 use Rattle.gimple_claims.proofs.Kept.{NewAt, none_new, kept_new}
@@ -30,7 +30,7 @@ use Rattle.body_fold.specs.Claims.{replaced, Folds, FoldKeepsRun}
 use Rattle.body_fold.proofs.Constants.{NamesMean}
 use Rattle.body_fold.proofs.Statements.{exit_is}
 use Rattle.body_fold.proofs.Names.{names_mean}
-use Rattle.body_fold.proofs.Points.{S, values, Calls, stmt_here, call_here, end_here, jump_kept}
+use Rattle.body_fold.proofs.Points.{S, values, stmt_here, call_here, end_here, jump_kept}
 
 -- ---- one item of a list replaced
 

@@ -1,9 +1,8 @@
 -- A folded statement does what the statement does, and a folded end leads where the end leads.
-use Rattle.std.proofs.Common.{◌≡◌, ℕ, ◌+◌, ℤ, pos, Bool, true, false, not, cond, if◌then◌else◌, List, [], ◌∷◌, ◌++◌, map, length, refl, sym, ◌∙◌, ap, subst, Option, Some, None, Result, Ok, Err}
+use Rattle.std.proofs.Common.{◌≡◌, ℕ, ℤ, pos, Bool, true, false, not, if◌then◌else◌, List, [], ◌∷◌, ◌++◌, length, refl, sym, ◌∙◌, ap, subst, Option, Some, None, Result, Ok}
 use Rattle.gimple_ir.specs.declared.scalar.Scalar.{Scalar}
 use Rattle.gimple_ir.specs.declared.scalar.Cmp.{Cmp}
 use Rattle.gimple_ir.specs.declared.value.Value.{Value}
-use Rattle.gimple_ir.specs.declared.value.Value.TheVariants.{Int as IntValue, Null as NullValue, At}
 use Rattle.gimple_ir.specs.declared.value.TrapKind.{TrapKind}
 use Rattle.gimple_ir.specs.declared.value.Constant.{Constant}
 use Rattle.gimple_ir.specs.declared.value.Constant.TheVariants.{Int, Null, Global}
@@ -23,9 +22,9 @@ use Rattle.gimple_ir.specs.declared.program.Program.{Program}
 use Rattle.gimple_core.specs.declared.machine.Cell.{Cell}
 use Rattle.gimple_core.specs.Memory.{found_at, same_scalar}
 use Rattle.gimple_core.specs.State.{World, State, Scope, scope_of, scalar_in}
-use Rattle.gimple_core.specs.Run.{call_of, act, assign, assign_result, loaded, stored, put, value_of, values_of, place_value, arith_of, compares, one_if, any_number, converted, case_for}
+use Rattle.gimple_core.specs.Run.{call_of, act, assign, assign_result, loaded, stored, put, value_of, values_of, place_value, arith_of, compares, one_if, any_number, case_for}
 use Rattle.gimple_core.specs.Verdict.{Verdict, demand}
-use Rattle.gimple_core.specs.Env.{Names, named, scalar_of}
+use Rattle.gimple_core.specs.Env.{Names, scalar_of}
 use Rattle.gimple_core.specs.Statements as s
 use Rattle.gimple_core.proofs.Passed.{first_passed, demanded}
 use Rattle.gimple_core.proofs.ScalarLemmas.{same_scalar_true}
@@ -37,16 +36,16 @@ use Rattle.gimple_claims.proofs.TypedValues.{scalar_there, has_cell}
 use Rattle.value_domain.specs.declared.abs_val.AbsVal.{AbsVal}
 use Rattle.value_domain.specs.Thresholds.{IsLawful}
 use Rattle.body_values.specs.declared.facts.Facts.{Facts}
-use Rattle.body_values.specs.Bodies.{Body, register_scalar, target_of}
+use Rattle.body_values.specs.Bodies.{Body, register_scalar}
 use Rattle.body_values.specs.Flow.{body_of}
 use Rattle.body_values.specs.Rows.{RowFits}
 use Rattle.body_values.specs.Rising.{LoadsFit}
 use Rattle.body_values.proofs.Held.{RowHolds}
 use Rattle.body_values.proofs.Stmts.{register}
-use Rattle.body_fold.specs.Fold.{Folding, value_of_constant, constant_operand, known_operand, evaluated, never_traps, known_result, known_comparison, constant_for, passes, is_put, put_or, folded_operand, folded_left, folded_right, right_check, formals_of, folded_arguments, place_on, folded_place, stored_place, with_operands, copy_or, with_result, folded_stmt, is_zero, goto_or, case_or, folded_end}
+use Rattle.body_fold.specs.Fold.{Folding, value_of_constant, constant_operand, known_operand, evaluated, never_traps, known_result, known_comparison, constant_for, passes, is_put, folded_operand, folded_left, folded_right, right_check, folded_arguments, place_on, folded_place, stored_place, with_operands, copy_or, with_result, folded_stmt, is_zero, goto_or, case_or, folded_end}
 use Rattle.body_fold.specs.Claims.{folding_of}
 use Rattle.body_fold.proofs.Constants.{OffsetFits, NamesMean, constant_value, put_has}
-use Rattle.body_fold.proofs.Known.{IsNamed, operand_named, printed_named, integer_named, sides_named, Known, for_same, operand_known, comparison_known, ArithSides, arith_sides, Computes, arith_known, copy_known, compare_result_known, convert_known, place_same}
+use Rattle.body_fold.proofs.Known.{IsNamed, operand_named, printed_named, integer_named, sides_named, for_same, operand_known, comparison_known, arith_sides, arith_known, copy_known, compare_result_known, convert_known, place_same}
 
 abbrev fine : World → Result World TrapKind
 fine w = Ok w
@@ -210,24 +209,24 @@ module _ (p : Program) (n : ℕ) (f : Function) (facts : Facts) (most : ℕ) (ts
       let own : register_scalar (f.params ++ f.registers) to ≡ a.0 = target_is to a.0 a.1 in
       result_acts j i names (register_scalar (f.params ++ f.registers) to) to (Copy to from) e c
       (λ z g.
-        let r = copy_known p n f facts most ts law serial d.cells row k t fits h loads mean j i (register_scalar (f.params ++ f.registers) to) to from (subst (λ y. s.operand (env_of p f) 4 y from ≡ Ok tt) (sym own) a.2) z g in
-        record { gives = ap (λ v. fine (assign d to v)) r.same; offset = r.offset })
+      let r = copy_known p n f facts most ts law serial d.cells row k t fits h loads mean j i (register_scalar (f.params ++ f.registers) to) to from (subst (λ y. s.operand (env_of p f) 4 y from ≡ Ok tt) (sym own) a.2) z g in
+      record { gives = ap (λ v. fine (assign d to v)) r.same; offset = r.offset })
   stmt_acts j i names (Arith to left op right) e c =
       let a = first_passed (scalar_of (env_of p f) to) _ tt e in
       let own : register_scalar (f.params ++ f.registers) to ≡ a.0 = target_is to a.0 a.1 in
       let there : scalar_in d.cells to ≡ register_scalar (f.params ++ f.registers) to = scalar_there d.cells to a.0 (has_cell p f d.cells to a.0 k a.1) ∙ sym own in
       result_acts j i names (register_scalar (f.params ++ f.registers) to) to (Arith to left op right) e c
       (λ z g.
-        let r = arith_known p n f facts most ts law serial d.cells row k t fits h loads mean j i (register_scalar (f.params ++ f.registers) to) to left op right (subst (λ y. s.arith (env_of p f) y left op right ≡ Ok tt) (sym own) a.2) z g in
-        record { gives = ap (λ y. assign_result d to (arith_of y (value left) op (value right))) there ∙ ap (assign_result d to) r.same; offset = r.offset })
+      let r = arith_known p n f facts most ts law serial d.cells row k t fits h loads mean j i (register_scalar (f.params ++ f.registers) to) to left op right (subst (λ y. s.arith (env_of p f) y left op right ≡ Ok tt) (sym own) a.2) z g in
+      record { gives = ap (λ y. assign_result d to (arith_of y (value left) op (value right))) there ∙ ap (assign_result d to) r.same; offset = r.offset })
   stmt_acts j i names (Compare to left cmp right) e c =
       let a = first_passed (scalar_of (env_of p f) to) _ tt e in
       let b = first_passed (demand (not (s.is_pointer a.0)) 4) _ tt a.2 in
       let own : register_scalar (f.params ++ f.registers) to ≡ a.0 = target_is to a.0 a.1 in
       result_acts j i names (register_scalar (f.params ++ f.registers) to) to (Compare to left cmp right) e c
       (λ z g.
-        let r = compare_result_known p n f facts most ts law serial d.cells row k t fits h loads mean j i (register_scalar (f.params ++ f.registers) to) to left cmp right (subst (λ y. not (s.is_pointer y) ≡ true) (sym own) (demanded _ 4 b.1)) b.2 z g in
-        record { gives = ap (λ v. fine (assign d to v)) r.same; offset = r.offset })
+      let r = compare_result_known p n f facts most ts law serial d.cells row k t fits h loads mean j i (register_scalar (f.params ++ f.registers) to) to left cmp right (subst (λ y. not (s.is_pointer y) ≡ true) (sym own) (demanded _ 4 b.1)) b.2 z g in
+      record { gives = ap (λ v. fine (assign d to v)) r.same; offset = r.offset })
   stmt_acts j i names (Convert to target from) e c =
       let a = first_passed (scalar_of (env_of p f) to) _ tt e in
       let b = first_passed (s.integer (env_of p f) from) _ tt a.2 in
@@ -235,8 +234,8 @@ module _ (p : Program) (n : ℕ) (f : Function) (facts : Facts) (most : ℕ) (ts
       let own : register_scalar (f.params ++ f.registers) to ≡ target = target_is to a.0 a.1 ∙ sym (same_scalar_true target a.0 (demanded _ 4 u.2)) in
       result_acts j i names (register_scalar (f.params ++ f.registers) to) to (Convert to target from) e c
       (λ z g.
-        let r = convert_known p n f facts most ts law serial d.cells row k t fits h loads mean j i target b.0 to from (demanded _ 4 u.1) b.1 z (subst (λ y. known_result B j i row y (Convert to target from) ≡ Some z) own g) in
-        record { gives = ap (λ v. fine (assign d to v)) r.same; offset = r.offset })
+      let r = convert_known p n f facts most ts law serial d.cells row k t fits h loads mean j i target b.0 to from (demanded _ 4 u.1) b.1 z (subst (λ y. known_result B j i row y (Convert to target from) ≡ Some z) own g) in
+      record { gives = ap (λ v. fine (assign d to v)) r.same; offset = r.offset })
   stmt_acts j i names (Load to from place) e c = result_acts j i names (register_scalar (f.params ++ f.registers) to) to (Load to from place) e c (no_result j i _ to (Load to from place) (load_unknown j i _ to from place))
   stmt_acts j i names (Store at place from) e c = with_acts names _ (Store at place from) e c
   stmt_acts j i names (Call to callee xs) e c = cc

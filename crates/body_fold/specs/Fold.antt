@@ -1,5 +1,5 @@
 -- A body with known constants put in.
-use Rattle.std.specs.Prelude.{◌≡◌, ◌↔◌, ℕ, ◌+◌, ℤ, ◌+ℤ◌, pos, Bool, true, false, not, if◌then◌else◌, int_le, ◌&&◌, List, [], ◌∷◌, length, Option, Some, None, Result, Ok, Err, slice_get}
+use Rattle.std.specs.Prelude.{◌≡◌, ◌↔◌, ℕ, ℤ, ◌+ℤ◌, pos, Bool, true, false, not, if◌then◌else◌, int_le, ◌&&◌, List, [], ◌∷◌, length, Option, Some, None, Result, Ok, Err, slice_get}
 use Rattle.gimple_ir.specs.declared.scalar.Scalar.{Scalar}
 use Rattle.gimple_ir.specs.declared.scalar.Scalar.TheVariants.{I32, I64}
 use Rattle.gimple_ir.specs.declared.scalar.Op.{Op}
@@ -11,7 +11,6 @@ use Rattle.gimple_ir.specs.declared.operand.Base.TheVariants.{Reg as RegBase, Va
 use Rattle.gimple_ir.specs.declared.operand.Place.{Place}
 use Rattle.gimple_ir.specs.declared.declarations.Register.{Register}
 use Rattle.gimple_ir.specs.declared.declarations.Global.{Global as GlobalDef}
-use Rattle.gimple_ir.specs.declared.value.Object.{Object}
 use Rattle.gimple_ir.specs.declared.value.Object.TheVariants.{Global as GlobalObject}
 use Rattle.gimple_ir.specs.declared.value.Value.{Value}
 use Rattle.gimple_ir.specs.declared.value.Value.TheVariants.{Int as IntValue, Null as NullValue, At}
@@ -25,14 +24,12 @@ use Rattle.gimple_ir.specs.declared.block.Block.{Block}
 use Rattle.gimple_ir.specs.declared.block.End.{End}
 use Rattle.gimple_ir.specs.declared.block.End.TheVariants.{Goto, If, Switch, Return}
 use Rattle.gimple_ir.specs.declared.program.Function.{Function}
-use Rattle.gimple_ir.specs.declared.program.Program.{Program}
 use Rattle.gimple_core.specs.Operators.{wrapped}
 use Rattle.gimple_core.specs.State.{offset_in}
 use Rattle.gimple_core.specs.Run.{arith_of, compares, one_if, any_number, case_for, block_place, place_or, converted}
 use Rattle.gimple_core.specs.Verdict.{Verdict, ◌>>◌, demand}
-use Rattle.gimple_core.specs.Env.{Env, Names, named, functions_by_name}
+use Rattle.gimple_core.specs.Env.{Env, Names, named}
 use Rattle.gimple_core.specs.Statements as check
-use Rattle.gimple_claims.specs.Checks.{env_of}
 use Rattle.gimple_claims.specs.Kept.{new_blocks}
 use Rattle.fix_engine.specs.declared.lifted.Lifted.{Lifted}
 use Rattle.fix_engine.specs.declared.lifted.Lifted.TheVariants.{NotReached, Reached}
