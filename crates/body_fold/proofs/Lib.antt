@@ -9,3 +9,4 @@ pub mod Sees
 pub mod Passing
 pub mod Labels
 pub mod Accepted
+pub mod Spelled

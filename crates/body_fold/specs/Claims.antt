@@ -10,6 +10,7 @@ use Rattle.gimple_core.specs.Operators.{in_scalar}
 use Rattle.gimple_core.specs.Run.{Run}
 use Rattle.gimple_claims.specs.Bodies.{FactsClaim}
 use Rattle.gimple_claims.specs.Checks.{env_of}
+use Rattle.gimple_text.specs.CanonLaws.{HasText}
 use Rattle.fix_engine.specs.declared.lifted.Lifted.{Lifted}
 use Rattle.value_domain.specs.declared.abs_val.AbsVal.{AbsVal}
 use Rattle.body_values.specs.declared.facts.Facts.{Facts}
@@ -38,3 +39,7 @@ FoldKeepsRun = (p : Program) (n : ℕ) (f : Function) (facts : Facts) (most : �
 -- it has no type fault
 abbrev pub FoldIsAccepted : Type 0
 FoldIsAccepted = (p : Program) (n : ℕ) (f : Function) (facts : Facts) (most : ℕ) (ts : List ℤ) (xs : List (Lifted (List AbsVal))) (g : Function) → Folds p n f facts most ts xs g → first_fault (replaced p n g) ≡ None
+
+-- some text spells it where some text spells the program
+abbrev pub FoldHasText : Type 0
+FoldHasText = (p : Program) (n : ℕ) (f : Function) (facts : Facts) (most : ℕ) (ts : List ℤ) (xs : List (Lifted (List AbsVal))) (g : Function) → Folds p n f facts most ts xs g → HasText p → HasText (replaced p n g)

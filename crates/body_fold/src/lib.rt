@@ -3,4 +3,4 @@
 
 mod laws;
 
-pub use laws::{folding_keeps_runs, folding_passes_checks};
+pub use laws::{folding_keeps_acceptance, folding_keeps_runs};
