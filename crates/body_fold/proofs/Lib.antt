@@ -10,3 +10,4 @@ pub mod Passing
 pub mod Labels
 pub mod Accepted
 pub mod Spelled
+pub mod Rows
