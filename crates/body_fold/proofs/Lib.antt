@@ -11,3 +11,4 @@ pub mod Labels
 pub mod Accepted
 pub mod Spelled
 pub mod Rows
+pub mod RowMain

@@ -1,13 +1,12 @@
 -- Worked rows: folded statements and ends.
-use Rattle.std.specs.Prelude.{◌≡◌, ℕ, ℤ, pos, List, [], ◌∷◌, Option, Some, None, refl}
-use Rattle.gimple_ir.specs.declared.scalar.Scalar.{Scalar}
-use Rattle.gimple_ir.specs.declared.scalar.Scalar.TheVariants.{I8, U8, U64, Ptr}
+use Rattle.std.specs.Prelude.{◌≡◌, ℕ, ℤ, pos, List, [], ◌∷◌, None, refl}
+use Rattle.gimple_ir.specs.declared.scalar.Scalar.TheVariants.{I8, U8, U64}
 use Rattle.gimple_ir.specs.declared.scalar.Op.TheVariants.{Add, Div, Shr}
 use Rattle.gimple_ir.specs.declared.scalar.Cmp.TheVariants.{Lt}
 use Rattle.gimple_ir.specs.declared.operand.Operand.TheVariants.{Reg, Number}
 use Rattle.gimple_ir.specs.declared.declarations.Register.{Register}
 use Rattle.gimple_ir.specs.declared.value.Constant.TheVariants.{Int}
-use Rattle.gimple_ir.specs.declared.statement.Stmt.TheVariants.{Copy, Arith, Put}
+use Rattle.gimple_ir.specs.declared.statement.Stmt.TheVariants.{Copy, Arith}
 use Rattle.gimple_ir.specs.declared.block.End.TheVariants.{Goto, If}
 use Rattle.gimple_core.specs.Operators.{op_of, wrapped}
 use Rattle.gimple_core.specs.State.{number_in}
