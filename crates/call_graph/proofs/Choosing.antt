@@ -1,8 +1,9 @@
 -- Where some node does not stand, some class is ready.
-use Rattle.std.proofs.Common.{◌≡◌, ℕ, zero, suc, ◌<◌, ◌≤◌, ◌⊎◌, inl, inr, Bool, true, false, List, [], ◌∷◌, length, get_or, refl, sym, ◌∙◌, arith}
+use Rattle.std.proofs.Common.{◌≡◌, ℕ, zero, suc, ◌<◌, ◌≤◌, ◌+◌, ◌⊎◌, inl, inr, Bool, true, false, List, [], ◌∷◌, ◌++◌, length, set, get_or, refl, sym, ◌∙◌, ap, arith}
 use Rattle.std.specs.List.{Contains}
 use Rattle.std.proofs.lemmas.Bool.{cases_Bool}
-use Rattle.call_graph.proofs.Walking.{marked_inside}
+use Rattle.call_graph.proofs.Walking.{marked_inside, walk_start, walk_done, step_kept, step_falls}
+use Rattle.call_graph.specs.Walk.{met, unmarked, IsWalk}
 use Rattle.call_graph.specs.Graph.{Leads, start, along, AreMarks, IsReady}
 
 pub reached_then : (out : ℕ → List ℕ) (a b c : ℕ) → Leads out a b → Leads out b c → Leads out a c
@@ -35,19 +36,27 @@ marked_less (true ∷ xs) (false ∷ ys) (suc i) len f low high = let h = f 0 re
 marked_less (false ∷ xs) (true ∷ ys) (suc i) len f low high = let h = marked_less xs ys i (omega (arith, len)) (λ k. f (suc k)) low high in omega (arith, h)
 marked_less (false ∷ xs) (false ∷ ys) (suc i) len f low high = let h = marked_less xs ys i (omega (arith, len)) (λ k. f (suc k)) low high in omega (arith, h)
 
-module _ (out : ℕ → List ℕ) (n : ℕ) (table : ℕ → List Bool) (tells : (a : ℕ) → a < n → AreMarks out n a (table a))
+module _ (out : ℕ → List ℕ) (n : ℕ) (tells : (a : ℕ) → a < n → (marks : List Bool) × AreMarks out n a marks)
     (ends : (x y : ℕ) → Contains (out x) y → y < n) (standing : List ℕ) (stands : (y : ℕ) → y < n → Contains standing y ⊎ (Contains standing y → ⊥)) where
-  decided : (a b : ℕ) → a < n → b < n → Leads out a b ⊎ (get_or (table a) b false ≡ false)
-  decided a b p q = elim (cases_Bool (get_or (table a) b false)) [ inl is ↦ inl (((tells a p).exact b q).0 is) | inr off ↦ inr off ]
+  -- the marks of what a node reaches
+  pub marks_of : (a : ℕ) → a < n → List Bool
+  marks_of a p = (tells a p).0
+
+  pub marks_are : (a : ℕ) (p : a < n) → AreMarks out n a (marks_of a p)
+  unfolding marks_of
+  marks_are a p = (tells a p).1
+
+  decided : (a b : ℕ) (p : a < n) → b < n → Leads out a b ⊎ (get_or (marks_of a p) b false ≡ false)
+  decided a b p q = elim (cases_Bool (get_or (marks_of a p) b false)) [ inl is ↦ inl (((marks_are a p).exact b q).0 is) | inr off ↦ inr off ]
 
   -- what is reached from y, where y is reached from a and does not reach a, is less
-  fewer : (a y : ℕ) → a < n → y < n → Leads out a y → get_or (table y) a false ≡ false → marked (table y) < marked (table a)
-  fewer a y p q r away = marked_less (table y) (table a) a ((tells y q).one_each ∙ sym (tells a p).one_each)
-      (λ k h. let low = marked_inside (table y) k h in let inside : k < n = omega (arith, low, (tells y q).one_each) in
-      ((tells a p).exact k inside).1 (reached_then out a y k r (((tells y q).exact k inside).0 h)))
-      away (((tells a p).exact a p).1 start)
+  fewer : (a y : ℕ) (p : a < n) (q : y < n) → Leads out a y → get_or (marks_of y q) a false ≡ false → marked (marks_of y q) < marked (marks_of a p)
+  fewer a y p q r away = marked_less (marks_of y q) (marks_of a p) a ((marks_are y q).one_each ∙ sym (marks_are a p).one_each)
+      (λ k h. let low = marked_inside (marks_of y q) k h in let inside : k < n = omega (arith, low, (marks_are y q).one_each) in
+      ((marks_are a p).exact k inside).1 (reached_then out a y k r (((marks_are y q).exact k inside).0 h)))
+      away (((marks_are a p).exact a p).1 start)
 
-  pub none_left : ((a : ℕ) → a < n → (Contains standing a → ⊥) → IsReady out standing a → ⊥) → (k a : ℕ) → a < n → (Contains standing a → ⊥) → marked (table a) < k → ⊥
+  pub none_left : ((a : ℕ) → a < n → (Contains standing a → ⊥) → IsReady out standing a → ⊥) → (k a : ℕ) (p : a < n) → (Contains standing a → ⊥) → marked (marks_of a p) < k → ⊥
   none_left none zero a p new low = omega (arith, low)
   none_left none (suc k) a p new low = none a p new (λ x y both h.
       let q = ends x y h in
@@ -67,5 +76,40 @@ module _ (out : ℕ → List ℕ) (n : ℕ) (table : ℕ → List Bool) (tells :
   pub all_stand : ((a : ℕ) → a < n → (Contains standing a → ⊥) → IsReady out standing a → ⊥) → (a : ℕ) → a < n → Contains standing a
   all_stand none a p = elim (stands a p) [
     | inl is ↦ is
-    | inr new ↦ let no = none_left none (suc (marked (table a))) a p new (omega arith) in elim no [ ]
+    | inr new ↦ let no = none_left none (suc (marked (marks_of a p))) a p new (omega arith) in elim no [ ]
   ]
+
+falses : ℕ → List Bool
+falses zero = []
+falses (suc n) = false ∷ falses n
+
+falses_length : (n : ℕ) → length (falses n) ≡ n
+unfolding falses
+falses_length zero = refl
+falses_length (suc n) = ap suc (falses_length n)
+
+falses_off : (n a : ℕ) → get_or (falses n) a false ≡ false
+unfolding falses
+falses_off zero a = refl
+falses_off (suc n) zero = refl
+falses_off (suc n) (suc a) = falses_off n a
+
+split_last : (x : ℕ) (xs : List ℕ) → (rest : List ℕ) × (a : ℕ) × (x ∷ xs ≡ rest ++ a ∷ [])
+split_last x [] = ([], x, refl)
+split_last x (y ∷ ys) = let (rest, a, e) = split_last y ys in (x ∷ rest, a, λ i. x ∷ e i)
+
+module _ (out : ℕ → List ℕ) (n root : ℕ) (ends : (x y : ℕ) → Contains (out x) y → y < n) where
+  walk_ends : (fuel : ℕ) (marks : List Bool) (pending : List ℕ) → IsWalk out n root (record { marks = marks; pending = pending }) → unmarked marks + length pending < fuel → (ms : List Bool) × AreMarks out n root ms
+  walk_ends zero marks pending walk low = absurd (omega (arith, low))
+  walk_ends (suc fuel) marks [] walk low = (marks, walk_done out n root marks walk)
+  walk_ends (suc fuel) marks (x ∷ xs) walk low =
+      let (rest, a, split) = split_last x xs in
+      let v = met (out a) (record { marks = marks; pending = rest }) in
+      let falls = step_falls out n root marks (x ∷ xs) walk rest a split (out a) v refl (ends a) refl in
+      walk_ends fuel v.marks v.pending (step_kept out n root marks (x ∷ xs) walk rest a split (out a) v refl (ends a) refl) (omega (arith, falls, low))
+
+  -- there are marks of what a node reaches
+  pub marks_found : root < n → (ms : List Bool) × AreMarks out n root ms
+  marks_found low =
+      let walk = walk_start out n root (falses n) (falses_length n) low (falses_off n) in
+      walk_ends (suc (unmarked (set (falses n) root true) + 1)) (set (falses n) root true) (root ∷ []) walk (omega arith)

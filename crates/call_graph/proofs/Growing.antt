@@ -1,10 +1,10 @@
 -- A class grows by its next member.
-use Rattle.std.proofs.Common.{◌≡◌, ◌↔◌, ℕ, ◌+◌, ◌<◌, inl, inr, Bool, true, false, List, [], ◌∷◌, ◌++◌, sym, subst, arith}
+use Rattle.std.proofs.Common.{◌≡◌, ℕ, ◌+◌, ◌<◌, inl, inr, Bool, true, false, List, [], ◌∷◌, ◌++◌, sym, subst, arith}
 use Rattle.std.specs.List.{Contains}
 use Rattle.std.proofs.lemmas.List.Elements.{Contains-append_left, Contains-push, Contains-push_cases}
 use Rattle.std.proofs.lemmas.Bool.Decides.{eqb_tells}
 use Rattle.call_graph.specs.Graph.{IsAscending}
-use Rattle.call_graph.specs.Table.{pushed_if}
+use Rattle.call_graph.specs.Firsts.{IsPart, pushed_if}
 use Rattle.call_graph.proofs.Members.{nothing, here, later}
 
 ascending_push : (xs : List ℕ) (m : ℕ) → IsAscending xs → ((y : ℕ) → Contains xs y → y < m) → IsAscending (xs ++ m ∷ [])
@@ -16,10 +16,6 @@ ascending_push (x ∷ xs) m up below = (
   ],
   ascending_push xs m up.1 (λ y h. below y (later x xs y h)),
 )
-
-pub record IsPart (test : ℕ → Bool) (m : ℕ) (xs : List ℕ) : Type 0 where
-  pub ascends : IsAscending xs
-  pub exact : (k : ℕ) → Contains xs k ↔ ((k < m) × (test k ≡ true))
 
 pub part_more : (test : ℕ → Bool) (m : ℕ) (xs : List ℕ) (is : Bool) → test m ≡ is → IsPart test m xs → IsPart test (m + 1) (pushed_if is m xs)
 part_more test m xs true e part =

@@ -9,9 +9,9 @@ pub mod Callees
 pub mod Keeping
 pub mod Choosing
 pub mod Ordering
-pub mod Tabling
-pub mod Testing
 pub mod Growing
-pub mod Standing
 pub mod Sofar
 pub mod Small
+pub mod Firsting
+pub mod Edging
+pub mod Queueing

@@ -2,5 +2,6 @@ pub mod Calls
 pub mod Graph
 pub mod Walk
 pub mod Reached
-pub mod Table
+pub mod Firsts
+pub mod Queue
 pub mod Sample

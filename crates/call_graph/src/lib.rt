@@ -2,8 +2,10 @@
 #![tactic(auto)]
 
 mod calls;
+mod firsts;
 mod names;
 mod order;
+mod queue;
 mod reach;
 mod rows;
 #[cfg(test)]

@@ -26,7 +26,7 @@ pub fn callees(alloc: Heap, program: &Checked) -> Result<Vec<Vec<u32>>, OutOfMem
 
 /// The callees of each of so many functions, in the order of the edges.
 #[tactic(auto, unfolding(crate::specs::Calls::callees_in))]
-fn rows_of(alloc: Heap, edges: &[Edge], nodes: usize) -> Result<Vec<Vec<u32>>, OutOfMemory>
+pub fn rows_of(alloc: Heap, edges: &[Edge], nodes: usize) -> Result<Vec<Vec<u32>>, OutOfMemory>
     requires { (e : _) → Contains edges.now e → e.caller < nodes }
     ensures one_each { IfOk result (λ rows. length rows.items ≡ nodes) }
     ensures rows { IfOk result (λ rows. (a : ℕ) → row_at rows.items a ≡ callees_in edges.now a) }
@@ -38,7 +38,7 @@ fn rows_of(alloc: Heap, edges: &[Edge], nodes: usize) -> Result<Vec<Vec<u32>>, O
     Ok(rows)
 }
 
-fn empty_rows(alloc: Heap, nodes: usize) -> Result<Vec<Vec<u32>>, OutOfMemory>
+pub fn empty_rows(alloc: Heap, nodes: usize) -> Result<Vec<Vec<u32>>, OutOfMemory>
     ensures one_each { IfOk result (λ rows. length rows.items ≡ nodes) }
     ensures rows { IfOk result (λ rows. (a : ℕ) → row_at rows.items a ≡ []) }
 {
@@ -49,7 +49,7 @@ fn empty_rows(alloc: Heap, nodes: usize) -> Result<Vec<Vec<u32>>, OutOfMemory>
     Ok(rows)
 }
 
-fn add_to(rows: &mut Vec<Vec<u32>>, node: u32, target: u32) -> Result<(), OutOfMemory>
+pub fn add_to(rows: &mut Vec<Vec<u32>>, node: u32, target: u32) -> Result<(), OutOfMemory>
     requires { node < length rows.old.items }
     ensures { OnOk result (listed rows.new.items ≡ slice_set (listed rows.old.items) node (row_at rows.old.items node ++ target ∷ [])) }
 {

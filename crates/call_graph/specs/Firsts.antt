@@ -1,0 +1,59 @@
+-- The first node of each node's component, the members of components, and the edges between components.
+use Rattle.std.specs.Prelude.{◌≡◌, ◌≢◌, ◌↔◌, ℕ, ◌<◌, ◌≤◌, ◌==◌, Bool, true, false, List, [], ◌∷◌, ◌++◌, length, Contains, slice_index_or, slice_set}
+use Rattle.gimple_ir.specs.declared.point.Edge.{Edge}
+use Rattle.call_graph.specs.Graph.{AreMutual, IsAscending}
+
+-- one number a node: a node of its component, not above any of them that is below k
+pub record AreFirstsBelow (out : ℕ → List ℕ) (n k : ℕ) (firsts : List ℕ) : Type 0 where
+  pub one_each : length firsts ≡ n
+  pub of_component : (a : ℕ) → a < n → AreMutual out a (slice_index_or firsts a 0)
+  pub least : (a b : ℕ) → a < n → AreMutual out a b → b < k → slice_index_or firsts a 0 ≤ b
+
+-- the first node of each node's component
+abbrev pub AreFirsts : (ℕ → List ℕ) → ℕ → List ℕ → Type 0
+AreFirsts out n firsts = AreFirstsBelow out n n firsts
+
+-- the node is the first of its component
+abbrev pub IsFirst : List ℕ → ℕ → Type 0
+IsFirst firsts r = (r < length firsts) × (slice_index_or firsts r 0 ≡ r)
+
+-- a node's first, where the node is of the component of k or is not
+abbrev pub placed : Bool → ℕ → ℕ → ℕ
+placed true k old = k
+placed false k old = old
+
+abbrev pub set_if : Bool → List ℕ → ℕ → ℕ → List ℕ
+set_if true xs at x = slice_set xs at x
+set_if false xs at x = xs
+
+abbrev pub pushed_if : Bool → ℕ → List ℕ → List ℕ
+pushed_if true m xs = xs ++ m ∷ []
+pushed_if false m xs = xs
+
+-- the numbers below m that pass a test, ascending
+pub record IsPart (test : ℕ → Bool) (m : ℕ) (xs : List ℕ) : Type 0 where
+  pub ascends : IsAscending xs
+  pub exact : (k : ℕ) → Contains xs k ↔ ((k < m) × (test k ≡ true))
+
+-- the edges, each turned around
+unfoldable pub turned : List Edge → List Edge
+turned [] = []
+turned (e ∷ es) = record { caller = e.callee; point = e.point; callee = e.caller } ∷ turned es
+
+-- an edge, from the first node of its source's component to that of its target's
+abbrev pub between_firsts : List ℕ → Edge → Edge
+between_firsts firsts e = record { caller = slice_index_or firsts e.caller 0; point = e.point; callee = slice_index_or firsts e.callee 0 }
+
+abbrev pub unless_inside : Bool → Edge → List Edge → List Edge
+unless_inside true e es = es
+unless_inside false e es = e ∷ es
+
+-- the edges that leave a component
+unfoldable pub edges_between : List ℕ → List Edge → List Edge
+edges_between firsts [] = []
+edges_between firsts (e ∷ es) = unless_inside (slice_index_or firsts e.caller 0 == slice_index_or firsts e.callee 0) (between_firsts firsts e) (edges_between firsts es)
+
+-- the edges between components are those of the nodes that leave a component
+pub record AreBetween (out : ℕ → List ℕ) (firsts : List ℕ) (between : ℕ → List ℕ) : Type 0 where
+  pub complete : (x y : ℕ) → Contains (out x) y → slice_index_or firsts x 0 ≢ slice_index_or firsts y 0 → Contains (between (slice_index_or firsts x 0)) (slice_index_or firsts y 0)
+  pub sound : (r c : ℕ) → Contains (between r) c → (x : ℕ) × (y : ℕ) × Contains (out x) y × (slice_index_or firsts x 0 ≡ r) × (slice_index_or firsts y 0 ≡ c) × (r ≢ c)
