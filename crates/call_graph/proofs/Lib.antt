@@ -10,6 +10,7 @@ pub mod Keeping
 pub mod Choosing
 pub mod Ordering
 pub mod Growing
+pub mod Standing
 pub mod Sofar
 pub mod Small
 pub mod Firsting

@@ -8,9 +8,7 @@ use Rattle.gimple_core.specs.Reach.{IsWithoutUnreached, with_kept}
 use Rattle.call_graph.specs.Calls.{callees_of}
 use Rattle.call_graph.specs.Graph.{start, IsOrder, IsOrderAfter}
 use Rattle.call_graph.specs.Walk.{unmarked}
-use Rattle.call_graph.specs.Table.{SayStanding, stood}
-use Rattle.call_graph.proofs.Standing.{says_more, stood_falls}
-use Rattle.call_graph.proofs.Sofar.{so_far_start}
+use Rattle.call_graph.proofs.Standing.{SayStanding, stood, says_none, says_more, stood_falls}
 
 abbrev unset : ℕ → List Bool
 unset zero = []
@@ -44,7 +42,7 @@ module _ (out : ℕ → List ℕ) (n : ℕ) where
 
   few : (cs : List (List ℕ)) → IsOrder out n cs → length cs ≤ n
   few cs h =
-      let says = (so_far_start out n (unset n) (unset_length n) (unset_off n)).says in
+      let says = says_none n (unset n) (unset_length n) (unset_off n) in
       let k = few_after [] (unset n) cs says h in
       omega (arith, k, unset_left n)
 
