@@ -1,0 +1,208 @@
+//! Values that the operators take, and questions about them.
+
+ghost use Rattle.std.specs.Prelude.{◌≡◌, false, IfOk};
+ghost use Rattle.value_domain.specs.ConstantOperators.{is_pointer};
+ghost use Rattle.value_rows.specs.Kept.{IsKept};
+
+use gimple_core::{Cmp, Constant, Op, OutOfMemory, Scalar};
+use std::alloc::Global;
+use value_domain::{
+    AbsVal, Bits, Range, Thresholds, Vals, abs_cmp, abs_convert, abs_op, exactly, join, known, leq,
+    may_trap, meet, refine, top,
+};
+
+/// What holds a number of a scalar.
+pub fn alone(
+    alloc: Global,
+    scalar: Scalar,
+    value: i128,
+    limits: &Thresholds,
+) -> Result<AbsVal, OutOfMemory>
+    ensures { IfOk result (IsKept scalar limits.now) }
+{
+    limits.known();
+    exactly(alloc, scalar, Constant::Int(value), limits)
+}
+
+/// What holds every number of a scalar.
+pub fn whole(scalar: Scalar, limits: &Thresholds) -> AbsVal
+    ensures { IsKept scalar limits.now result }
+{
+    limits.known();
+    top(scalar)
+}
+
+/// What is left of a side where a comparison is taken.
+pub fn left(
+    cmp: Cmp,
+    scalar: Scalar,
+    side: &AbsVal,
+    against: &AbsVal,
+    limits: &Thresholds,
+) -> Result<AbsVal, OutOfMemory>
+    requires number { is_pointer scalar ≡ false }
+    requires side { IsKept scalar limits.now side.now }
+    requires against { IsKept scalar limits.now against.now }
+    ensures { IfOk result (IsKept scalar limits.now) }
+{
+    limits.known();
+    refine(cmp, scalar, side, against, limits)
+}
+
+/// The numbers of a scalar within an interval, with no list of constants.
+pub fn between(
+    alloc: Global,
+    scalar: Scalar,
+    range: Range,
+    limits: &Thresholds,
+) -> Result<AbsVal, OutOfMemory>
+    requires { is_pointer scalar ≡ false }
+    ensures { IfOk result (IsKept scalar limits.now) }
+{
+    let all = whole(scalar, limits);
+    let least = alone(alloc, scalar, range.low, limits)?;
+    let greatest = alone(alloc, scalar, range.high, limits)?;
+    let from = left(Cmp::Ge, scalar, &all, &least, limits)?;
+    left(Cmp::Le, scalar, &from, &greatest, limits)
+}
+
+/// The result of an operator on two values of a scalar.
+pub fn made(
+    alloc: Global,
+    op: Op,
+    scalar: Scalar,
+    first: &AbsVal,
+    second: &AbsVal,
+    limits: &Thresholds,
+) -> Result<AbsVal, OutOfMemory>
+    requires number { is_pointer scalar ≡ false }
+    requires first { IsKept scalar limits.now first.now }
+    requires second { IsKept scalar limits.now second.now }
+    ensures { IfOk result (IsKept scalar limits.now) }
+{
+    limits.known();
+    abs_op(alloc, op, scalar, scalar, first, second, limits)
+}
+
+/// Whether an operator may trap on two values of a scalar.
+pub fn traps(op: Op, scalar: Scalar, first: &AbsVal, second: &AbsVal, limits: &Thresholds) -> bool
+    requires number { is_pointer scalar ≡ false }
+    requires first { IsKept scalar limits.now first.now }
+    requires second { IsKept scalar limits.now second.now }
+{
+    limits.known();
+    may_trap(op, scalar, first, second)
+}
+
+/// What a comparison of two values makes of them, as a value of `target`.
+pub fn compared(
+    alloc: Global,
+    target: Scalar,
+    cmp: Cmp,
+    scalar: Scalar,
+    first: &AbsVal,
+    second: &AbsVal,
+    limits: &Thresholds,
+) -> Result<AbsVal, OutOfMemory>
+    requires target { is_pointer target ≡ false }
+    requires number { is_pointer scalar ≡ false }
+    requires first { IsKept scalar limits.now first.now }
+    requires second { IsKept scalar limits.now second.now }
+    ensures { IfOk result (IsKept target limits.now) }
+{
+    limits.known();
+    abs_cmp(alloc, target, cmp, scalar, first, second, limits)
+}
+
+/// What a conversion makes of a value.
+pub fn converted(
+    alloc: Global,
+    target: Scalar,
+    source: Scalar,
+    value: &AbsVal,
+    limits: &Thresholds,
+) -> Result<AbsVal, OutOfMemory>
+    requires target { is_pointer target ≡ false }
+    requires source { is_pointer source ≡ false }
+    requires value { IsKept source limits.now value.now }
+    ensures { IfOk result (IsKept target limits.now) }
+{
+    limits.known();
+    abs_convert(alloc, target, source, value, limits)
+}
+
+/// The least value above two values of a scalar.
+pub fn joined(
+    scalar: Scalar,
+    first: &AbsVal,
+    second: &AbsVal,
+    limits: &Thresholds,
+) -> Result<AbsVal, OutOfMemory>
+    requires first { IsKept scalar limits.now first.now }
+    requires second { IsKept scalar limits.now second.now }
+{
+    limits.known();
+    join(first, second)
+}
+
+/// What is known where two values of a scalar hold.
+pub fn both(
+    scalar: Scalar,
+    first: &AbsVal,
+    second: &AbsVal,
+    limits: &Thresholds,
+) -> Result<AbsVal, OutOfMemory>
+    requires first { IsKept scalar limits.now first.now }
+    requires second { IsKept scalar limits.now second.now }
+{
+    limits.known();
+    meet(first, second)
+}
+
+/// Whether the first of two values of a scalar is below the second.
+pub fn is_below(scalar: Scalar, first: &AbsVal, second: &AbsVal, limits: &Thresholds) -> bool
+    requires first { IsKept scalar limits.now first.now }
+    requires second { IsKept scalar limits.now second.now }
+{
+    limits.known();
+    leq(first, second)
+}
+
+/// The number that a value of a scalar is known to be.
+pub fn known_number(scalar: Scalar, value: &AbsVal, limits: &Thresholds) -> Option<i128>
+    requires { IsKept scalar limits.now value.now }
+{
+    match known(scalar, value) {
+        Some(Constant::Int(number)) => Some(number),
+        _ => None,
+    }
+}
+
+/// Whether a value has any constant and this interval.
+pub fn is_any_within(value: &AbsVal, range: Range) -> bool {
+    matches!(&value.vals, Vals::Any) && value.range == range
+}
+
+/// Whether a value holds nothing.
+pub fn is_nothing(value: &AbsVal) -> bool {
+    matches!(&value.vals, Vals::Nothing) && value.range == Range { low: 1, high: 0 }
+}
+
+/// Whether a value has these known bits and this interval.
+pub fn is_within(value: &AbsVal, bits: Bits, range: Range) -> bool {
+    value.bits == bits && value.range == range
+}
+
+/// Whether the set of a value is this number alone.
+pub fn is_listed_alone(value: &AbsVal, want: i128) -> bool {
+    match &value.vals {
+        Vals::Among {
+            limit: _,
+            constants,
+        } => match constants.as_slice() {
+            [Constant::Int(number)] => *number == want,
+            _ => false,
+        },
+        _ => false,
+    }
+}
