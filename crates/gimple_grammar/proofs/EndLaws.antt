@@ -1,46 +1,25 @@
 -- The readers of ends and blocks.
-use Rattle.std.proofs.Common.{◌≡◌, ℕ, Bool, true, false, not, ◌||◌, List, [], ◌∷◌, ◌++◌, Option, Some, None, refl, sym, ap, ◌∙◌, append_assoc, inl, inr, ◌⊎◌}
+use Rattle.std.proofs.Common.{◌≡◌, ℕ, true, false, not, List, [], ◌∷◌, ◌++◌, Option, Some, None, refl, sym, ap, ◌∙◌, inl, inr}
 use Rattle.std.proofs.lemmas.List.{append-nil}
-use Rattle.std.specs.Prelude.{ℤ, pos}
 use denote.Enum.Bare.{sameb}
 use Rattle.gimple_tokens.specs.contracts.token.Symbol.{the_type}
 use Rattle.gimple_ir.specs.declared.operand.Operand.{Operand}
-use Rattle.gimple_ir.specs.declared.operand.Operand.TheVariants.{Reg, Number, Null, Address}
-use Rattle.gimple_ir.specs.declared.operand.Base.{Base}
-use Rattle.gimple_ir.specs.declared.operand.Base.TheVariants as base
-use Rattle.gimple_ir.specs.declared.operand.Place.{Place}
-use Rattle.gimple_ir.specs.declared.scalar.Op.{Op}
-use Rattle.gimple_ir.specs.declared.scalar.Op.TheVariants as op
 use Rattle.gimple_ir.specs.declared.scalar.Cmp.{Cmp}
-use Rattle.gimple_ir.specs.declared.scalar.Cmp.TheVariants as cmp
-use Rattle.gimple_ir.specs.declared.scalar.Scalar.{Scalar}
-use Rattle.gimple_ir.specs.declared.scalar.Scalar.TheVariants as kind
-use Rattle.gimple_ir.specs.declared.statement.Stmt.{Stmt}
-use Rattle.gimple_ir.specs.declared.statement.Stmt.TheVariants.{Copy, Arith, Compare, Convert, Load, Store, Call, Get, Put, Abort}
 use Rattle.gimple_ir.specs.declared.block.Case.{Case}
 use Rattle.gimple_ir.specs.declared.block.End.{End}
 use Rattle.gimple_ir.specs.declared.block.End.TheVariants.{Goto, If, Switch, Return}
 use Rattle.gimple_ir.specs.declared.block.Block.{Block}
-use Rattle.gimple_ir.specs.declared.declarations.Shape.{Shape}
-use Rattle.gimple_ir.specs.declared.declarations.Shape.TheVariants.{Plain, Named}
-use Rattle.gimple_ir.specs.declared.declarations.Decl.{Decl}
-use Rattle.gimple_ir.specs.declared.declarations.StructDef.{StructDef}
-use Rattle.gimple_ir.specs.declared.declarations.Global.{Global}
-use Rattle.gimple_ir.specs.declared.declarations.Register.{Register}
-use Rattle.gimple_ir.specs.declared.program.Function.{Function}
-use Rattle.gimple_ir.specs.declared.program.Program.{Program}
 use Rattle.gimple_tokens.specs.declared.token.Symbol.{Symbol}
 use Rattle.gimple_tokens.specs.declared.token.Symbol.TheVariants as s
-use Rattle.gimple_tokens.specs.declared.token.Token.{Token}
 use Rattle.gimple_tokens.specs.declared.token.Token.TheVariants as tok
-use Rattle.token_law.specs.Reading.{Tokens, Parser, ◌>>=◌, ◌>>◌, pure, choose, many, keyed, lookup, one_of, sees, sees_name, sees_one, not_before, fixed, name, number, one, end_of_text, one_or_more, separated}
-use Rattle.token_law.specs.Languages.{IsMany, IsSeparated}
-use Rattle.token_law.proofs.ReadsExactly.{ReadsExactly, IsHeadTest, IsThen, IsEither, IsPure, Avoids, never, pure_exact, then_exact, choose_exact, recast, widen, front_avoids, bind_ok, ok_parts}
+use Rattle.token_law.specs.Reading.{Tokens, ◌>>=◌, pure, many, sees, sees_name, not_before}
+use Rattle.token_law.specs.Languages.{IsMany}
+use Rattle.token_law.proofs.ReadsExactly.{ReadsExactly, IsEither, IsPure, Avoids, never, pure_exact, then_exact, choose_exact, recast, widen, front_avoids}
 use Rattle.token_law.proofs.Many.{IsMore, many_exact}
-use Rattle.token_law.proofs.Leaves.{IsFixed, IsName, IsNumber, IsKeyed, IsKey, is_more, sees_head, sees_name_head, sees_one_head, sees_self, sees_one_self, before_sees, before_other, seen_other, seen_one, seen_no_name, seen_test, fixed_exact, name_exact, number_exact, one_exact, end_exact, end_sound, keyed_exact, one_of_exact, fixed_avoids}
-use Rattle.token_law.proofs.Lists.{after, then_symbol, then_key, ends_with, many_then, separated_exact, some_exact, IsSome}
-use Rattle.gimple_grammar.specs.Grammar.{negative, scalar_symbol, op_symbol, cmp_symbol, IsSigned, IsOffset, IsAddress, IsItem, IsOperand, IsArguments, base_tokens, IsPlace, mem_tokens, to_tokens, IsSimple, IsStmt, target_tokens, goto_tokens, IsCase, IsEnd, IsBlock, shape_tokens, length_tokens, decl_tokens, IsField, IsStruct, const_tokens, IsItems, IsGlobal, IsResult, IsRegister, IsDeclared, IsLocal, IsFunction, IsProgram}
-use Rattle.gimple_grammar.specs.Readers.{comparison, cmps, signed, operand, begins_statement, statement, target, goto, branches, case_of, switch_end, returned, return_end, ending, block}
+use Rattle.token_law.proofs.Leaves.{sees_head, sees_self, before_sees, seen_other, fixed_exact, number_exact}
+use Rattle.token_law.proofs.Lists.{after, then_symbol, then_key, ends_with}
+use Rattle.gimple_grammar.specs.Grammar.{cmp_symbol, IsOperand, target_tokens, goto_tokens, IsCase, IsEnd, IsBlock}
+use Rattle.gimple_grammar.specs.Readers.{comparison, cmps, operand, begins_statement, statement, target, goto, branches, case_of, switch_end, returned, return_end, ending, block}
 use Rattle.gimple_grammar.proofs.ValueLaws.{cmp_differs, comparison_exact, signed_exact, operand_exact, operand_avoids}
 use Rattle.gimple_grammar.proofs.BodyLaws.{semi_at, statements_exact}
 

@@ -1,5 +1,5 @@
 -- What the exact reader of programs says of whole lists of tokens.
-use Rattle.std.proofs.Common.{◌≡◌, ℕ, List, [], ◌∷◌, ◌++◌, length, Bool, true, false, Result, Ok, Err, refl, sym, ap, ◌∙◌, append_assoc}
+use Rattle.std.proofs.Common.{◌≡◌, ℕ, [], ◌∷◌, ◌++◌, length, Result, Ok, Err, refl, sym, ap, ◌∙◌, append_assoc}
 use Rattle.std.specs.Prelude.{IfOk, IfErr}
 use Rattle.std.proofs.lemmas.List.{append-nil}
 use Rattle.gimple_ir.specs.declared.program.Program.{Program}
@@ -9,9 +9,8 @@ use Rattle.token_law.specs.declared.cursor.Fault.TheVariants.{Memory, At}
 use Rattle.token_law.specs.Reading.{Tokens, Reads}
 use Rattle.gimple_grammar.specs.Readers.{program}
 use Rattle.gimple_grammar.specs.Grammar.{IsProgram}
-use Rattle.gimple_grammar.specs.TokenFaults.{BeginsProgram, IsOver, IsFault, FaultOf, ReadsAs}
-use Rattle.token_law.proofs.ReadsExactly.{ReadsExactly, done, ok_parts}
-use Rattle.token_law.proofs.Leaves.{is_more}
+use Rattle.gimple_grammar.specs.TokenFaults.{IsOver, IsFault, FaultOf, ReadsAs}
+use Rattle.token_law.proofs.ReadsExactly.{ok_parts}
 use Rattle.gimple_grammar.proofs.ProgramLaws.{program_exact, program_ends}
 
 -- a spelled program is read to its end

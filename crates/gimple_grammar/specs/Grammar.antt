@@ -27,7 +27,6 @@ use Rattle.gimple_ir.specs.declared.program.Function.{Function}
 use Rattle.gimple_ir.specs.declared.program.Program.{Program}
 use Rattle.gimple_tokens.specs.declared.token.Symbol.{Symbol}
 use Rattle.gimple_tokens.specs.declared.token.Symbol.TheVariants as s
-use Rattle.gimple_tokens.specs.declared.token.Token.{Token}
 use Rattle.gimple_tokens.specs.declared.token.Token.TheVariants as tok
 use Rattle.token_law.specs.Reading.{Tokens}
 use Rattle.token_law.specs.Languages.{IsMany, IsSeparated}

@@ -1,7 +1,6 @@
 -- The fault of tokens that are no program.
-use Rattle.std.specs.Prelude.{◌≡◌, ℕ, List, [], ◌∷◌, ◌++◌, length, Result, Ok, Err}
+use Rattle.std.specs.Prelude.{◌≡◌, ℕ, [], ◌∷◌, ◌++◌, length, Result, Ok, Err}
 use Rattle.gimple_ir.specs.declared.program.Program.{Program}
-use Rattle.gimple_tokens.specs.declared.token.Token.{Token}
 use Rattle.token_law.specs.declared.cursor.Fault.{Fault}
 use Rattle.token_law.specs.declared.cursor.Fault.TheVariants.{Memory, At}
 use Rattle.token_law.specs.Reading.{Tokens}

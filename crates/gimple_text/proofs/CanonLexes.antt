@@ -1,5 +1,5 @@
 -- The canonical text lexes to its tokens, whatever follows.
-use Rattle.std.proofs.Common.{◌≡◌, ℕ, zero, suc, ◌<◌, ◌^◌, Bool, true, false, List, [], ◌∷◌, ◌++◌, Option, Some, None, refl, sym, ap, subst, ◌∙◌, append_assoc}
+use Rattle.std.proofs.Common.{◌≡◌, ℕ, zero, suc, ◌<◌, ◌^◌, Bool, true, false, List, [], ◌∷◌, ◌++◌, Option, Some, None, refl, sym, subst, append_assoc}
 use Rattle.std.specs.Prelude.{codes, ℤ, pos, negsuc}
 use Rattle.std.specs.List.{flat_map}
 use Rattle.std.specs.Fmt.{decimal, signed_decimal}
@@ -29,16 +29,14 @@ use Rattle.gimple_ir.specs.declared.declarations.Global.{Global}
 use Rattle.gimple_ir.specs.declared.declarations.Register.{Register}
 use Rattle.gimple_ir.specs.declared.program.Function.{Function}
 use Rattle.gimple_ir.specs.declared.program.Program.{Program}
-use Rattle.gimple_tokens.specs.declared.token.Symbol.{Symbol}
 use Rattle.gimple_tokens.specs.declared.token.Symbol.TheVariants as s
-use Rattle.gimple_tokens.specs.declared.token.Token.{Token}
 use Rattle.gimple_tokens.specs.declared.token.Token.TheVariants as tok
 use Rattle.gimple_tokens.specs.Lexing.{Bytes, goes_on_name, same, token_at, Lexes, IsNameText}
 use Rattle.gimple_tokens.proofs.Pieces.{Stops, stops_digit, name_lexes, keyword_lexes, number_lexes}
 use Rattle.token_law.specs.Reading.{Tokens}
-use Rattle.gimple_grammar.specs.Grammar.{scalar_symbol, op_symbol, cmp_symbol, base_tokens, mem_tokens, to_tokens, target_tokens, goto_tokens, shape_tokens, length_tokens, decl_tokens, const_tokens}
-use Rattle.gimple_text.specs.Canon.{scalar_text, offset_text, operand_text, op_text, cmp_text, comparison_text, more_text, separated_text, base_text, mem_text, target_text, goto_text, branches_text, if_text, assigned_text, to_text, call_text, simple_text, statement_text, case_text, end_text, block_text, shape_text, length_text, decl_text, field_text, struct_text, const_text, items_text, global_text, result_text, register_text, register_line, local_text, head_text, function_text, canon, AllOf, IsSpellableNumber, IsSpellableOperand, IsSpellableItem, IsSpellableBase, IsSpellablePlace, IsSpellableTarget, IsSpellableStmt, IsSpellableCase, IsSpellableEnd, IsSpellableBlock, IsSpellableShape, IsSpellableLength, IsSpellableDecl, IsSpellableStruct, IsSpellableGlobal, IsSpellableRegister, IsSpellableFunction, IsSpellable}
-use Rattle.gimple_text.proofs.CanonTokens.{signed_tokens, offset_tokens, operand_tokens, more_tokens, separated_tokens, call_tokens, place_tokens, access_tokens, simple_tokens, statement_tokens, case_tokens, end_tokens, block_tokens, field_tokens, struct_tokens, items_tokens, global_tokens, register_tokens, declared_tokens, local_tokens, result_token, function_tokens, program_tokens}
+use Rattle.gimple_grammar.specs.Grammar.{scalar_symbol, op_symbol, cmp_symbol, base_tokens, target_tokens, goto_tokens, shape_tokens, length_tokens, decl_tokens, const_tokens}
+use Rattle.gimple_text.specs.Canon.{scalar_text, offset_text, operand_text, op_text, cmp_text, more_text, separated_text, base_text, mem_text, target_text, goto_text, branches_text, simple_text, statement_text, case_text, end_text, block_text, shape_text, length_text, decl_text, field_text, struct_text, const_text, items_text, global_text, result_text, register_text, register_line, local_text, function_text, canon, AllOf, IsSpellableNumber, IsSpellableOperand, IsSpellableItem, IsSpellableBase, IsSpellablePlace, IsSpellableStmt, IsSpellableCase, IsSpellableEnd, IsSpellableBlock, IsSpellableShape, IsSpellableLength, IsSpellableDecl, IsSpellableStruct, IsSpellableGlobal, IsSpellableRegister, IsSpellableFunction, IsSpellable}
+use Rattle.gimple_text.proofs.CanonTokens.{signed_tokens, offset_tokens, operand_tokens, more_tokens, separated_tokens, access_tokens, simple_tokens, statement_tokens, case_tokens, end_tokens, block_tokens, field_tokens, struct_tokens, items_tokens, global_tokens, register_tokens, declared_tokens, local_tokens, result_token, function_tokens, program_tokens}
 
 recut : (bs cs : Bytes) (ts us : Tokens) → bs ≡ cs → ts ≡ us → Lexes cs us → Lexes bs ts
 recut bs cs ts us e f h = subst (λ z. Lexes z ts) (sym e) (subst (λ z. Lexes cs z) (sym f) h)

@@ -1,41 +1,30 @@
 -- The tokens of the canonical text spell the program.
-use Rattle.std.proofs.Common.{◌≡◌, ℕ, zero, suc, Bool, true, false, List, [], ◌∷◌, ◌++◌, Option, Some, None, refl, inl, inr, ◌⊎◌}
+use Rattle.std.proofs.Common.{zero, suc, List, [], ◌∷◌, ◌++◌, Option, Some, None, refl, inl, inr}
 use Rattle.std.specs.Prelude.{ℤ, pos, negsuc}
 use Rattle.std.specs.List.{flat_map}
 use Rattle.gimple_ir.specs.declared.operand.Operand.{Operand}
 use Rattle.gimple_ir.specs.declared.operand.Operand.TheVariants.{Reg, Number, Null, Address}
-use Rattle.gimple_ir.specs.declared.operand.Base.{Base}
-use Rattle.gimple_ir.specs.declared.operand.Base.TheVariants as base
 use Rattle.gimple_ir.specs.declared.operand.Place.{Place}
-use Rattle.gimple_ir.specs.declared.scalar.Op.{Op}
-use Rattle.gimple_ir.specs.declared.scalar.Op.TheVariants as op
-use Rattle.gimple_ir.specs.declared.scalar.Cmp.{Cmp}
-use Rattle.gimple_ir.specs.declared.scalar.Cmp.TheVariants as cmp
 use Rattle.gimple_ir.specs.declared.scalar.Scalar.{Scalar}
-use Rattle.gimple_ir.specs.declared.scalar.Scalar.TheVariants as kind
 use Rattle.gimple_ir.specs.declared.statement.Stmt.{Stmt}
 use Rattle.gimple_ir.specs.declared.statement.Stmt.TheVariants.{Copy, Arith, Compare, Convert, Load, Store, Call, Get, Put, Abort}
 use Rattle.gimple_ir.specs.declared.block.Case.{Case}
 use Rattle.gimple_ir.specs.declared.block.End.{End}
 use Rattle.gimple_ir.specs.declared.block.End.TheVariants.{Goto, If, Switch, Return}
 use Rattle.gimple_ir.specs.declared.block.Block.{Block}
-use Rattle.gimple_ir.specs.declared.declarations.Shape.{Shape}
-use Rattle.gimple_ir.specs.declared.declarations.Shape.TheVariants.{Plain, Named}
 use Rattle.gimple_ir.specs.declared.declarations.Decl.{Decl}
 use Rattle.gimple_ir.specs.declared.declarations.StructDef.{StructDef}
 use Rattle.gimple_ir.specs.declared.declarations.Global.{Global}
 use Rattle.gimple_ir.specs.declared.declarations.Register.{Register}
 use Rattle.gimple_ir.specs.declared.program.Function.{Function}
 use Rattle.gimple_ir.specs.declared.program.Program.{Program}
-use Rattle.gimple_tokens.specs.declared.token.Symbol.{Symbol}
 use Rattle.gimple_tokens.specs.declared.token.Symbol.TheVariants as s
-use Rattle.gimple_tokens.specs.declared.token.Token.{Token}
 use Rattle.gimple_tokens.specs.declared.token.Token.TheVariants as tok
 use Rattle.token_law.specs.Reading.{Tokens}
 use Rattle.token_law.specs.Languages.{IsMany, IsAfterComma, IsSeparated}
-use Rattle.gimple_grammar.specs.Grammar.{negative, scalar_symbol, op_symbol, cmp_symbol, IsSigned, IsOffset, IsAddress, IsItem, IsOperand, IsArguments, base_tokens, IsPlace, mem_tokens, to_tokens, IsSimple, IsStmt, target_tokens, goto_tokens, IsCase, IsEnd, IsBlock, shape_tokens, length_tokens, decl_tokens, IsField, IsStruct, const_tokens, IsItems, IsGlobal, IsResult, IsRegister, IsDeclared, IsLocal, IsFunction, IsProgram}
-use Rattle.gimple_text.specs.Canon.{AllOf, IsSpellableNumber, IsSpellableOperand, IsSpellableItem, IsSpellableBase, IsSpellablePlace, IsSpellableTarget, IsSpellableStmt, IsSpellableCase, IsSpellableEnd, IsSpellableBlock, IsSpellableShape, IsSpellableLength, IsSpellableDecl, IsSpellableStruct, IsSpellableGlobal, IsSpellableRegister, IsSpellableFunction, IsSpellable}
-use Rattle.gimple_text.proofs.CanonTokens.{signed_tokens, offset_tokens, operand_tokens, more_tokens, separated_tokens, call_tokens, place_tokens, access_tokens, simple_tokens, statement_tokens, case_tokens, end_tokens, block_tokens, field_tokens, struct_tokens, items_tokens, global_tokens, register_tokens, declared_tokens, local_tokens, result_token, function_tokens, program_tokens}
+use Rattle.gimple_grammar.specs.Grammar.{IsSigned, IsOffset, IsItem, IsOperand, IsArguments, IsPlace, IsSimple, IsStmt, IsCase, IsEnd, IsBlock, IsField, IsStruct, IsItems, IsGlobal, IsResult, IsRegister, IsDeclared, IsLocal, IsFunction, IsProgram}
+use Rattle.gimple_text.specs.Canon.{AllOf, IsSpellableOperand, IsSpellableItem, IsSpellableStmt, IsSpellableCase, IsSpellableEnd, IsSpellableBlock, IsSpellableDecl, IsSpellableStruct, IsSpellableGlobal, IsSpellableRegister, IsSpellableFunction, IsSpellable}
+use Rattle.gimple_text.proofs.CanonTokens.{signed_tokens, offset_tokens, operand_tokens, more_tokens, separated_tokens, place_tokens, simple_tokens, statement_tokens, case_tokens, end_tokens, block_tokens, field_tokens, struct_tokens, items_tokens, global_tokens, register_tokens, declared_tokens, local_tokens, result_token, function_tokens, program_tokens}
 
 module _ {A : Type 0} (S : A → Tokens → Type 0) (tokens : A → Tokens) (ok : A → Type 0) (spelled : (x : A) → ok x → S x (tokens x)) where
   pub many_spelled : (xs : List A) → AllOf ok xs → IsMany S xs (flat_map tokens xs)

@@ -1,21 +1,20 @@
 -- From the front of the bytes and the reading of its tokens to the whole.
-use Rattle.std.proofs.Common.{◌≡◌, ◌≢◌, ℕ, zero, suc, ◌+◌, ◌-◌, ◌<◌, List, [], ◌∷◌, ◌++◌, length, false, Option, Some, None, Result, Ok, Err, refl, sym, ap, subst, ◌∙◌, arith, length-append}
+use Rattle.std.proofs.Common.{◌≡◌, ◌≢◌, ℕ, zero, suc, ◌+◌, ◌-◌, List, [], ◌∷◌, ◌++◌, length, false, Result, Ok, Err, refl, sym, ap, subst, ◌∙◌, arith, length-append}
 use Rattle.std.specs.Prelude.{IfOk, IfErr}
 use Rattle.std.proofs.lemmas.List.{append-nil, nil_from_length}
 use Rattle.gimple_ir.specs.declared.program.Program.{Program}
 use Rattle.gimple_tokens.specs.declared.token.Token.{Token}
-use Rattle.gimple_tokens.specs.Lexing.{Bytes, Lexes, LexesUpTo, token_at, skip}
+use Rattle.gimple_tokens.specs.Lexing.{Bytes, Lexes, LexesUpTo, skip}
 use Rattle.gimple_tokens.specs.Front.{Front, walk}
-use Rattle.gimple_tokens.specs.Spots.{spot_at, spot_before}
+use Rattle.gimple_tokens.specs.Spots.{spot_at}
 use Rattle.gimple_tokens.proofs.Runs.{ended, walked}
 use Rattle.gimple_tokens.proofs.OneList.{same_tokens}
 use Rattle.token_law.specs.declared.cursor.Fault.{Fault}
 use Rattle.token_law.specs.declared.cursor.Fault.TheVariants as read
 use Rattle.gimple_grammar.specs.Grammar.{IsProgram}
 use Rattle.gimple_grammar.specs.TokenFaults.{BeginsProgram, IsOver, IsFault, FaultOf, ReadsAs}
-use Rattle.gimple_text.specs.Parse.{Spells, IsBadByte, IsBadToken, IsEarlyEnd, FaultOrMemory, ParsesAs, Judged}
+use Rattle.gimple_text.specs.Parse.{Spells, IsBadByte, IsBadToken, FaultOrMemory, ParsesAs, Judged}
 use Rattle.gimple_text.specs.declared.fault.TextFault.{TextFault}
-use Rattle.gimple_text.specs.declared.fault.TextFault.TheVariants.{Memory, BadByte, BadToken, EarlyEnd}
 
 whole : (bs : Bytes) (ts : List Token) (left : ℕ) → Front bs ts left → left ≡ 0 → Lexes bs ts
 whole bs ts left f e = ended (skip false bs) ts f.rest f.lexed (nil_from_length f.rest (f.count ∙ e))

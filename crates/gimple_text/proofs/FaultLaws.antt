@@ -1,18 +1,16 @@
 -- A text has one program, or one fault: the tokens of both stop at one place.
-use Rattle.std.proofs.Common.{◌≡◌, ◌≢◌, ℕ, List, [], ◌∷◌, ◌++◌, length, false, Option, Some, None, refl, sym, ap, subst, ◌∙◌, append_assoc, inl, inr, ◌⊎◌}
+use Rattle.std.proofs.Common.{◌≡◌, List, [], ◌∷◌, ◌++◌, false, None, refl, sym, ap, ◌∙◌, append_assoc, inl, inr}
 use Rattle.std.proofs.lemmas.List.{append-nil}
 use Rattle.gimple_ir.specs.declared.program.Program.{Program}
 use Rattle.gimple_tokens.specs.declared.token.Token.{Token}
 use Rattle.gimple_tokens.specs.declared.spot.Spot.{Spot}
 use Rattle.gimple_tokens.specs.Lexing.{Bytes, Lexes, LexesUpTo, token_at, skip, AllReal}
-use Rattle.gimple_tokens.specs.Spots.{spot_at, spot_before}
+use Rattle.gimple_tokens.specs.Spots.{spot_before}
 use Rattle.gimple_tokens.proofs.OneList.{some_parts, to_end, compared}
 use Rattle.gimple_tokens.proofs.Real.{up_to_real}
 use Rattle.token_law.proofs.ReadsExactly.{both_real}
-use Rattle.gimple_grammar.specs.Grammar.{IsProgram}
 use Rattle.gimple_grammar.specs.TokenFaults.{BeginsProgram}
-use Rattle.gimple_text.specs.Parse.{Spells, IsBadByte, IsBadToken, IsEarlyEnd, TextFaultOf, OneProgram, FaultExcludes, OneFault}
-use Rattle.gimple_text.specs.declared.fault.TextFault.{TextFault}
+use Rattle.gimple_text.specs.Parse.{Spells, IsBadByte, IsBadToken, IsEarlyEnd, OneProgram, FaultExcludes, OneFault}
 use Rattle.gimple_text.specs.declared.fault.TextFault.TheVariants.{Memory, BadByte, BadToken, EarlyEnd}
 use Rattle.gimple_grammar.proofs.Theorems.{one}
 use Rattle.gimple_text.proofs.Composed.{begun}

@@ -1,5 +1,5 @@
 -- Which programs have a text.
-use Rattle.std.proofs.Common.{◌≡◌, ◌↔◌, ℕ, Bool, true, false, List, [], ◌∷◌, filter, refl, inl, inr, ◌⊎◌}
+use Rattle.std.proofs.Common.{Bool, false, List, [], ◌∷◌, filter, inl, inr}
 use Rattle.gimple_ir.specs.declared.program.Function.{Function}
 use Rattle.gimple_ir.specs.declared.program.Program.{Program}
 use Rattle.gimple_tokens.specs.Lexing.{Bytes, skip}
@@ -7,7 +7,7 @@ use Rattle.gimple_tokens.proofs.Real.{lexed_real}
 use Rattle.token_law.proofs.ReadsExactly.{test_cases}
 use Rattle.gimple_text.specs.Parse.{Spells}
 use Rattle.gimple_text.specs.Canon.{canon, AllOf, IsSpellable, IsSpellableFunction}
-use Rattle.gimple_text.specs.CanonLaws.{CanonSpells, HasText, SpellableHasText}
+use Rattle.gimple_text.specs.CanonLaws.{SpellableHasText}
 use Rattle.gimple_text.proofs.CanonTokens.{program_tokens}
 use Rattle.gimple_text.proofs.CanonLexes.{canon_lexes}
 use Rattle.gimple_text.proofs.CanonSpelled.{program_spelled}

@@ -1,5 +1,5 @@
 -- How long the fronts of bytes are.
-use Rattle.std.proofs.Common.{◌≡◌, ℕ, suc, ◌+◌, ◌≤◌, ◌<◌, Bool, true, false, List, [], ◌∷◌, length, refl, arith, ap, inl, inr, ◌⊎◌}
+use Rattle.std.proofs.Common.{◌≡◌, ℕ, ◌≤◌, ◌<◌, Bool, true, false, [], ◌∷◌, length, refl, arith, inl, inr, ◌⊎◌}
 use Rattle.gimple_tokens.specs.Lexing.{Bytes, back, front, AllPass}
 
 pub test : (b : Bool) → (b ≡ true) ⊎ (b ≡ false)

@@ -1,5 +1,5 @@
 -- The tests of names and digits.
-use Rattle.std.proofs.Common.{◌≡◌, ◌↔◌, ℕ, Bool, true, false, ◌&&◌, List, [], ◌∷◌, Option, Some, None, IsTrue, refl, ap, ◌∙◌, inl, inr, ◌⊎◌}
+use Rattle.std.proofs.Common.{◌≡◌, ◌↔◌, ℕ, Bool, true, false, ◌&&◌, [], ◌∷◌, Option, Some, None, IsTrue, refl, inl, inr}
 use Rattle.gimple_tokens.specs.declared.token.Symbol.{Symbol}
 use Rattle.gimple_tokens.specs.Lexing.{Bytes, AllPass, all_pass, starts_name, goes_on_name, keyword, is_none, is_name_text, IsNameText}
 use Rattle.gimple_tokens.proofs.Fronts.{test}

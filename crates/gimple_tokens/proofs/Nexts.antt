@@ -1,13 +1,11 @@
 -- The next token, from what comes behind it.
 use Rattle.std.specs.Prelude.{option_map}
-use Rattle.std.proofs.Common.{◌≡◌, ℕ, ◌+◌, ◌-◌, ◌≤◌, ◌==◌, Bool, true, false, List, [], ◌∷◌, length, take, drop, Option, Some, None, refl, sym, ap, ◌∙◌, arith, length-drop}
+use Rattle.std.proofs.Common.{◌≡◌, ℕ, ◌+◌, ◌-◌, ◌≤◌, ◌==◌, false, [], ◌∷◌, length, take, drop, Option, Some, None, refl, sym, ap, ◌∙◌, arith, length-drop}
 use Rattle.std.proofs.Math.Seq.{take-length}
 use Rattle.gimple_tokens.specs.declared.token.Token.{Token}
 use Rattle.gimple_tokens.specs.declared.next.Cursor.{Cursor}
-use Rattle.gimple_tokens.specs.declared.next.Next.{Next}
 use Rattle.gimple_tokens.specs.declared.next.Next.TheVariants as next
 use Rattle.gimple_tokens.specs.Lexing.{Bytes, skip, token_at}
-use Rattle.gimple_tokens.specs.Spots.{spot_at}
 use Rattle.gimple_tokens.specs.Next.{cursor_left, next_by, next_from, next_at}
 use Rattle.gimple_tokens.proofs.Runs.{takes, skip_length}
 

@@ -1,5 +1,5 @@
 -- More digits write no smaller number.
-use Rattle.std.proofs.Common.{◌≡◌, ℕ, ◌+◌, ◌-◌, ◌*◌, ◌≤◌, List, [], ◌∷◌, arith}
+use Rattle.std.proofs.Common.{ℕ, ◌+◌, ◌-◌, ◌*◌, ◌≤◌, [], ◌∷◌, arith}
 use Rattle.gimple_tokens.specs.Lexing.{Bytes, number_after}
 
 pub grows : (n : ℕ) (bs : Bytes) → n ≤ number_after n bs

@@ -1,9 +1,8 @@
 -- The tokens of bytes are tokens that bytes can have.
-use Rattle.std.proofs.Common.{◌≡◌, ℕ, ◌<◌, ◌^◌, nat_le, Bool, true, false, ◌||◌, List, [], ◌∷◌, ◌++◌, Option, Some, None, refl, sym, ap, subst, ◌∙◌, arith, inl, inr, ◌⊎◌}
+use Rattle.std.proofs.Common.{◌≡◌, ℕ, ◌<◌, ◌^◌, nat_le, true, false, List, [], ◌∷◌, ◌++◌, Option, Some, None, refl, sym, ap, subst, arith, inl, inr}
 use Rattle.std.proofs.lemmas.Bool.Decides.{nat_tests}
 use Rattle.gimple_tokens.specs.declared.token.Symbol.{Symbol}
 use Rattle.gimple_tokens.specs.declared.token.Token.{Token}
-use Rattle.gimple_tokens.specs.declared.token.Token.TheVariants as tok
 use Rattle.gimple_tokens.specs.Lexing.{Bytes, front, AllPass, skip, starts_name, goes_on_name, is_digit, keyword, word, number_after, number_token, mark, mark_at, pair_mark, begins_pair, paired_at, one_mark, longer_mark, word_at, number_at, token_at, LexesFrom, LexesUpTo, IsReal, AllReal}
 use Rattle.gimple_tokens.proofs.Fronts.{test, front_passes}
 

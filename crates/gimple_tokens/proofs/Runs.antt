@@ -1,9 +1,8 @@
 -- Token after token.
-use Rattle.std.proofs.Common.{◌≡◌, ℕ, zero, suc, ◌+◌, ◌-◌, ◌≤◌, ◌<◌, ◌==◌, ◌&&◌, Bool, true, false, not, cond, List, [], ◌∷◌, ◌++◌, length, Option, Some, None, refl, arith, ap, sym, ◌∙◌, inl, inr, ◌⊎◌}
+use Rattle.std.proofs.Common.{◌≡◌, ℕ, suc, ◌+◌, ◌-◌, ◌≤◌, ◌<◌, ◌==◌, ◌&&◌, Bool, true, false, not, List, [], ◌∷◌, ◌++◌, length, Option, Some, None, refl, arith, ap, ◌∙◌, inl, inr}
 use Rattle.gimple_tokens.specs.declared.token.Symbol.{Symbol}
 use Rattle.gimple_tokens.specs.declared.token.Token.{Token}
-use Rattle.gimple_tokens.specs.declared.token.Token.TheVariants as tok
-use Rattle.gimple_tokens.specs.Lexing.{Bytes, back, front, AllPass, skip, is_blank, starts_name, goes_on_name, is_digit, next_is, mark, mark_at, pair_mark, begins_pair, paired_at, one_mark, longer_mark, token_at, LexesFrom, LexesUpTo}
+use Rattle.gimple_tokens.specs.Lexing.{Bytes, skip, is_blank, starts_name, goes_on_name, is_digit, next_is, mark, mark_at, pair_mark, begins_pair, paired_at, one_mark, longer_mark, token_at, LexesFrom, LexesUpTo}
 use Rattle.gimple_tokens.specs.Front.{Front, step, walk}
 use Rattle.gimple_tokens.proofs.Fronts.{back_length, test}
 

@@ -1,5 +1,5 @@
 -- Lines and columns of places, one after the other.
-use Rattle.std.proofs.Common.{◌≡◌, ℕ, zero, suc, ◌+◌, ◌-◌, ◌≤◌, ◌==◌, Bool, true, false, List, [], ◌∷◌, length, take, drop, refl, sym, ap, ◌∙◌, arith, length-drop, inl, inr, ◌⊎◌}
+use Rattle.std.proofs.Common.{◌≡◌, ℕ, zero, suc, ◌+◌, ◌-◌, ◌≤◌, ◌==◌, [], ◌∷◌, length, take, drop, refl, ap, ◌∙◌, arith, length-drop, inl, inr}
 use Rattle.std.proofs.lemmas.List.{length-take-le}
 use Rattle.gimple_tokens.specs.declared.spot.Spot.{Spot}
 use Rattle.gimple_tokens.specs.Lexing.{Bytes}

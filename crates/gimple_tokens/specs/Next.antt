@@ -1,5 +1,5 @@
 -- The next token of bytes.
-use Rattle.std.specs.Prelude.{◌≡◌, ℕ, ◌-◌, false, List, [], ◌∷◌, length, drop, Option, Some, None}
+use Rattle.std.specs.Prelude.{ℕ, ◌-◌, false, [], ◌∷◌, length, drop, Option, Some, None}
 use Rattle.gimple_tokens.specs.declared.token.Token.{Token}
 use Rattle.gimple_tokens.specs.declared.next.Cursor.{Cursor}
 use Rattle.gimple_tokens.specs.declared.next.Next.{Next}

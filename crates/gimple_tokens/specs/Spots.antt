@@ -1,5 +1,5 @@
 -- Lines and columns.
-use Rattle.std.specs.Prelude.{◌≡◌, ℕ, ◌+◌, ◌-◌, ◌==◌, if◌then◌else◌, List, [], ◌∷◌, length, take}
+use Rattle.std.specs.Prelude.{ℕ, ◌+◌, ◌-◌, ◌==◌, if◌then◌else◌, [], ◌∷◌, length, take}
 use Rattle.gimple_tokens.specs.declared.spot.Spot.{Spot}
 use Rattle.gimple_tokens.specs.Lexing.{Bytes}
 

@@ -1,17 +1,16 @@
 -- Readers of one token.
-use Rattle.std.proofs.Common.{◌≡◌, ℕ, zero, suc, ◌==◌, Bool, true, false, not, cond, List, [], ◌∷◌, ◌++◌, length, drop, Option, Some, None, Result, Ok, Err, refl, sym, ap, ◌∙◌, lit<, arith, rules, inl, inr, ◌⊎◌}
+use Rattle.std.proofs.Common.{◌≡◌, ℕ, ◌==◌, Bool, true, false, not, cond, List, [], ◌∷◌, length, Option, Some, None, Ok, Err, refl, sym, ap, ◌∙◌, lit<, rules, inl, inr}
 use Rattle.std.proofs.lemmas.Bool.{eqb-true}
 use Rattle.std.specs.Option.{is_some}
 use denote.Enum.Bare.{sameb, same_true, true_same}
 use Rattle.gimple_tokens.specs.declared.token.Symbol.{Symbol}
-use Rattle.gimple_tokens.specs.declared.token.Symbol.TheVariants as s
 use Rattle.gimple_tokens.specs.declared.token.Token.{Token}
 use Rattle.gimple_tokens.specs.declared.token.Token.TheVariants as tok
 use Rattle.gimple_tokens.specs.contracts.token.Symbol.{the_type}
 use Rattle.std.specs.Prelude.{codes}
 use Rattle.gimple_tokens.specs.Lexing.{same, IsNameText, IsReal}
-use Rattle.token_law.specs.Reading.{Tokens, Outcome, Parser, ◌>>=◌, pure, choose, keyed, sees, sees_name, not_before, leaf_at, leaf, of_symbol, lookup, one_of, sees_one, fixed, name, number, one, end_of_text}
-use Rattle.token_law.proofs.ReadsExactly.{ReadsExactly, IsHeadTest, Begins, IsThen, IsEither, IsPure, Avoids, pure_exact, then_exact, choose_exact, never, done, ok_parts, test_cases, recast}
+use Rattle.token_law.specs.Reading.{Tokens, Outcome, Parser, pure, choose, keyed, sees, sees_name, not_before, leaf_at, leaf, of_symbol, lookup, one_of, sees_one, fixed, name, number, one, end_of_text}
+use Rattle.token_law.proofs.ReadsExactly.{ReadsExactly, IsHeadTest, IsEither, IsPure, Avoids, pure_exact, then_exact, choose_exact, never, ok_parts, test_cases, recast}
 
 -- ---- tests of the next token
 

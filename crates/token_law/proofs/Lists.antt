@@ -1,14 +1,14 @@
 -- Readers of lists with commas.
-use Rattle.std.proofs.Common.{◌≡◌, Bool, true, false, List, [], ◌∷◌, ◌++◌, refl, sym, ap, ◌∙◌, append_assoc, inl, inr, ◌⊎◌}
+use Rattle.std.proofs.Common.{◌≡◌, Bool, true, false, List, [], ◌∷◌, ◌++◌, refl, ap, ◌∙◌, append_assoc, inl, inr}
 use denote.Enum.Bare.{sameb}
 use Rattle.gimple_tokens.specs.contracts.token.Symbol.{the_type}
 use Rattle.gimple_tokens.specs.declared.token.Symbol.{Symbol}
 use Rattle.gimple_tokens.specs.declared.token.Symbol.TheVariants as s
 use Rattle.gimple_tokens.specs.declared.token.Token.TheVariants as tok
-use Rattle.token_law.specs.Reading.{Tokens, Parser, ◌>>=◌, ◌>>◌, pure, choose, sees, not_before, fixed, one_of, many, after_comma, one_or_more, separated}
+use Rattle.token_law.specs.Reading.{Tokens, Parser, ◌>>=◌, pure, sees, not_before, fixed, one_of, after_comma, one_or_more, separated}
 use Rattle.token_law.specs.Languages.{IsMany, IsAfterComma, IsSeparated}
 use Rattle.token_law.proofs.ReadsExactly.{ReadsExactly, IsThen, IsEither, IsPure, Avoids, never, pure_exact, then_exact, choose_exact, recast, widen}
-use Rattle.token_law.proofs.Many.{IsMore, many_exact}
+use Rattle.token_law.proofs.Many.{many_exact}
 use Rattle.token_law.proofs.Leaves.{IsFixed, IsKey, sees_head, sees_self, before_sees, before_other, fixed_exact}
 
 -- one reader after another that looks at no token past its own

@@ -1,10 +1,9 @@
 -- A reader of many items reads exactly the lists of them.
-use Rattle.std.proofs.Common.{◌≡◌, ℕ, zero, suc, ◌+◌, ◌-◌, ◌<◌, ◌≤◌, Bool, true, false, List, [], ◌∷◌, ◌++◌, length, Result, Ok, Err, refl, sym, ap, ◌∙◌, append_assoc, length-append, arith, inl, inr, ◌⊎◌}
+use Rattle.std.proofs.Common.{◌≡◌, ℕ, zero, suc, ◌+◌, ◌<◌, ◌≤◌, Bool, true, false, List, [], ◌∷◌, ◌++◌, length, Ok, Err, refl, sym, ap, ◌∙◌, append_assoc, length-append, arith, inl, inr}
 use Rattle.std.proofs.lemmas.List.{append-nil}
-use Rattle.gimple_tokens.specs.declared.token.Token.{Token}
-use Rattle.token_law.specs.Reading.{Tokens, Outcome, Parser, and_then, ◌>>=◌, pure, choose, many_from, many}
+use Rattle.token_law.specs.Reading.{Tokens, Outcome, Parser, and_then, many_from, many}
 use Rattle.token_law.specs.Languages.{IsMany}
-use Rattle.token_law.proofs.ReadsExactly.{TookBy, StuckBy, Took, Stuck, Begins, ReadsExactly, IsHeadTest, same_head, steady_on, test_cases, bind_ok, bind_err, done, ok_parts}
+use Rattle.token_law.proofs.ReadsExactly.{TookBy, StuckBy, Took, ReadsExactly, IsHeadTest, same_head, steady_on, test_cases, bind_ok, bind_err, done, ok_parts}
 
 -- those that were found, and then more
 abbrev pub IsMore : {A : Type 0} → (A → Tokens → Type 0) → List A → List A → Tokens → Type 0

@@ -1,5 +1,5 @@
 -- A loop over a list of items, beside the recursion that says what it reads.
-use Rattle.std.proofs.Common.{◌≡◌, ℕ, suc, ◌-◌, ◌+◌, ◌<◌, ◌≤◌, List, [], ◌∷◌, ◌++◌, Bool, true, false, Result, Ok, Err, ap, ◌∙◌, refl, arith}
+use Rattle.std.proofs.Common.{◌≡◌, ℕ, suc, ◌-◌, ◌+◌, ◌<◌, ◌≤◌, List, [], ◌∷◌, ◌++◌, Bool, true, false, Ok, Err, ◌∙◌, refl, arith}
 use Rattle.token_law.specs.Reading.{Tokens, Outcome, Parser, many_from}
 
 -- an item was read

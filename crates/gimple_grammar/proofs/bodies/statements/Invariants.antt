@@ -1,4 +1,4 @@
-use Rattle.std.proofs.Common.{◌≡◌, ◌-◌, length, [], ◌∷◌}
+use Rattle.std.proofs.Common.{◌≡◌, ◌-◌, length, []}
 use Rattle.token_law.specs.Reading.{many_from}
 use Rattle.gimple_grammar.specs.Readers.{begins_statement, statement}
 use Rattle.gimple_grammar.proofs.bodies.statements.Given as goal

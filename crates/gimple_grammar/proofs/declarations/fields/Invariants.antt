@@ -1,4 +1,4 @@
-use Rattle.std.proofs.Common.{◌≡◌, ◌-◌, length, [], ◌∷◌}
+use Rattle.std.proofs.Common.{◌≡◌, ◌-◌, length, []}
 use Rattle.token_law.specs.Reading.{many_from}
 use Rattle.gimple_grammar.specs.Readers.{begins_decl, field}
 use Rattle.gimple_grammar.proofs.declarations.fields.Given as goal

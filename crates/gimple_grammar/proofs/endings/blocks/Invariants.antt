@@ -1,4 +1,4 @@
-use Rattle.std.proofs.Common.{◌≡◌, ◌-◌, length, [], ◌∷◌}
+use Rattle.std.proofs.Common.{◌≡◌, ◌-◌, length, []}
 use Rattle.gimple_tokens.specs.declared.token.Symbol.TheVariants.{Less}
 use Rattle.token_law.specs.Reading.{sees, many_from}
 use Rattle.gimple_grammar.specs.Readers.{block}

@@ -1,4 +1,4 @@
-use Rattle.std.proofs.Common.{◌≡◌, ◌+◌, ◌≤◌, length, take}
+use Rattle.std.proofs.Common.{◌≡◌, ◌+◌, ◌≤◌, length}
 use Rattle.gimple_tokens.specs.Spots as spec
 use Rattle.gimple_tokens.proofs.spot.spot_at.Given as goal
 
