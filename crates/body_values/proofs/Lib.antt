@@ -10,3 +10,6 @@ pub mod Always
 pub mod Written
 pub mod Refined
 pub mod Flowing
+pub mod BranchCounts
+pub mod Layouts
+pub mod Settled

@@ -8,3 +8,6 @@ pub mod Claims
 pub mod Scenes
 pub mod Fitting
 pub mod Ready
+pub mod PointRows
+pub mod Found
+pub mod Setting

@@ -2,13 +2,18 @@
 #![tactic(auto)]
 
 mod branches;
+mod branching;
 mod changes;
 mod ends;
+mod entry;
 mod facts;
 mod flow;
 mod laws;
+mod point_rows;
 mod scene;
 mod transfer;
+mod values;
 
 pub use facts::{AbsVals, Facts, LoadFact, LoadFacts};
 pub use laws::values_hold;
+pub use values::{BodyValues, values_of};

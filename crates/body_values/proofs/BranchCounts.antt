@@ -1,0 +1,35 @@
+-- The branches of blocks, one after the other, and how many there are.
+use Rattle.std.proofs.Common.{◌≡◌, ℕ, zero, suc, ◌+◌, ◌<◌, ◌≤◌, ◌^◌, List, [], ◌∷◌, ◌++◌, length, length-append, append_assoc, drop, get_or, refl, sym, ◌∙◌, ap, arith}
+use Rattle.std.proofs.lemmas.List.{drop_more}
+use Rattle.gimple_ir.specs.declared.block.Block.{Block}
+use Rattle.gimple_core.specs.Run.{block_place, place_or}
+use Rattle.body_values.specs.declared.branches.Branch.{Branch}
+use Rattle.body_values.specs.Flow.{labels_of, branches_to, branches_from, branches_of}
+
+row_count : (all : List Block) (k slot : ℕ) (ls : List ℕ) → length (branches_to all k slot ls) ≡ length ls
+row_count all k slot [] = refl
+row_count all k slot (x ∷ ls) = ap suc (row_count all k (slot + 1) ls)
+
+-- a block has no more branches than all of them
+labels_within : (all : List Block) (k i : ℕ) (bs : List Block) (b : Block) → i < length bs → b ≡ get_or bs i b → length (labels_of b.end) ≤ length (branches_from all k bs)
+labels_within all k i [] b l e = absurd (omega (arith, l))
+labels_within all k zero (x ∷ bs) b l e =
+    let same : length (labels_of b.end) ≡ length (labels_of x.end) = ap (λ (y : Block). length (labels_of y.end)) e in
+    omega (arith, same, row_count all k 0 (labels_of x.end), length-append (branches_to all k 0 (labels_of x.end)) (branches_from all (k + 1) bs))
+labels_within all k (suc i) (x ∷ bs) b l e =
+    let rest : length (labels_of b.end) ≤ length (branches_from all (k + 1) bs) = labels_within all (k + 1) i bs b (omega (arith, l)) e in
+    omega (arith, rest, length-append (branches_to all k 0 (labels_of x.end)) (branches_from all (k + 1) bs))
+
+pub labels_few : (bs : List Block) (i : ℕ) (b : Block) → i < length bs → b ≡ get_or bs i b → length (branches_of bs) < 2 ^ 32 → length (labels_of b.end) < 2 ^ 32
+unfolding branches_of
+labels_few bs i b l e h = let within = labels_within bs 0 i bs b l e in omega (arith, within, h)
+
+-- one branch more
+pub next_branch : (all : List Block) (k i : ℕ) (ls : List ℕ) (d : ℕ) (x : Branch) (found new e : List Branch) → i < length ls → x ≡ record { source = k; slot = i; target = place_or (block_place (get_or ls i d) all) } → new ≡ found ++ x ∷ [] →
+    found ++ branches_to all k i (drop i ls) ≡ e → new ++ branches_to all k (i + 1) (drop (i + 1) ls) ≡ e
+next_branch all k i ls d x found new e l is pushed h =
+    let rest : List Branch = branches_to all k (i + 1) (drop (i + 1) ls) in
+    ap (λ (ys : List Branch). ys ++ rest) pushed
+    ∙ (append_assoc found (x ∷ []) rest
+    ∙ (ap (λ (y : Branch). found ++ (y ∷ rest)) is
+    ∙ (ap (λ (ys : List ℕ). found ++ branches_to all k i ys) (sym (drop_more ls i d l)) ∙ h)))

@@ -1,0 +1,208 @@
+-- What the code asks of a function and of its values.
+use Rattle.std.proofs.Common.{◌≡◌, ℕ, zero, suc, ◌+◌, ◌<◌, ◌≤◌, ◌^◌, nat_le, ℤ, Bool, true, false, cond, List, [], ◌∷◌, ◌++◌, take, length, Option, Some, None, IsSomeAnd, slice_get, refl, sym, ◌∙◌, ap, subst, arith}
+use Rattle.std.specs.Prelude.{slice_index_or, sum_by, find}
+use Rattle.std.proofs.lemmas.Bool.Decides.{nat_tests}
+use Rattle.std.proofs.lemmas.Bool.{leb-true}
+use Rattle.gimple_ir.specs.declared.statement.Stmt.{Stmt}
+use Rattle.gimple_ir.specs.declared.declarations.Global.{Global}
+use Rattle.gimple_ir.specs.declared.declarations.Register.{Register}
+use Rattle.gimple_ir.specs.declared.block.Block.{Block}
+use Rattle.gimple_ir.specs.declared.program.Function.{Function}
+use Rattle.gimple_ir.specs.declared.program.Program.{Program}
+use Rattle.gimple_core.specs.Layout.{HasLayout}
+use Rattle.gimple_core.specs.Names.{same_name}
+use Rattle.gimple_core.specs.Sealed.{IsAccepted}
+use Rattle.gimple_core.specs.Size.{size_of_block, size_of_function, size_of_program}
+use Rattle.fix_engine.specs.Bools.{both}
+use Rattle.fix_engine.specs.Rows.{Each}
+use Rattle.fix_engine.specs.Least.{value_at}
+use Rattle.fix_engine.specs.declared.lifted.Lifted.{Lifted}
+use Rattle.fix_engine.specs.declared.lifted.Lifted.TheVariants.{NotReached, Reached}
+use Rattle.value_domain.specs.declared.abs_val.AbsVal.{AbsVal}
+use Rattle.value_domain.specs.Values.{FitsWith}
+use Rattle.value_domain.specs.Thresholds.{Limits, IsLawful, thresholds_list}
+use Rattle.value_domain.proofs.LawfulLemmas.{list_lawful}
+use Rattle.body_values.specs.declared.facts.Facts.{Facts}
+use Rattle.body_values.specs.declared.facts.LoadFact.{LoadFact}
+use Rattle.body_values.specs.declared.scene.Scene.{Scene}
+use Rattle.body_values.specs.Bodies.{Body, where_reached, after_stmt, after_body}
+use Rattle.body_values.specs.Fitting.{fits_by, is_fitting, file_by, is_file}
+use Rattle.body_values.specs.Flow.{given_load, body_of, entry_row, branches_of, equations_of, AreValues, body_at, value_or, values_at}
+use Rattle.body_values.specs.Found.{OfFunction, Found, AreFound, rows_or, found_row, is_index, point_row}
+use Rattle.body_values.specs.PointRows.{rows_from, block_rows}
+use Rattle.body_values.specs.Ready.{loads_by, Carried, AreFew}
+use Rattle.body_values.specs.Scenes.{body_in, FitsIn}
+use Rattle.body_values.specs.Setting.{IsGiven, IsSceneOf, AreBegins, AreRows}
+use Rattle.body_values.specs.System.{FactsFit, entry_fits}
+use Rattle.body_values.proofs.Flowing.{fits_in}
+use Rattle.body_values.proofs.Layouts.{global_layout}
+
+-- ---- what a flow carries
+
+are_loads : (most : ℕ) (ts : List ℤ) (loads : List LoadFact) → Each (λ x. FitsWith most ts x.value) loads → loads_by most ts loads ≡ true
+are_loads most ts [] h = refl
+are_loads most ts (x ∷ loads) h = both (fits_by most ts x.value) (loads_by most ts loads) (is_fitting most ts x.value h.0) (are_loads most ts loads h.1)
+
+abbrev KnowsIn : Program → Type 0
+KnowsIn p = (name : List ℕ) (g : Global) → find (λ g. same_name g.decl.name name) p.globals ≡ Some g → HasLayout p.structs g.decl
+
+pub carried_of : (s : Scene) (p : Program) (n : ℕ) (f : Function) (facts : Facts) (limits : Limits) → IsSceneOf s p n f facts limits → IsGiven p f facts limits → Carried s
+carried_of s p n f facts limits h g =
+    let loads : loads_by s.limits.now.size s.limits.now.ends s.loads.now ≡ loads_by limits.size limits.ends facts.loads = λ i. loads_by (h.thresholds i).size (h.thresholds i).ends (h.loads i) in
+    record {
+      few = subst (λ (q : Program). length q.globals < 2 ^ 32) (sym h.program) g.globals;
+      layouts = subst KnowsIn (sym h.program) (global_layout p g.accepted);
+      ends = ap (λ (l : Limits). l.ends) h.thresholds ∙ (g.ends ∙ ap thresholds_list (sym h.program));
+      loads = loads ∙ are_loads limits.size limits.ends facts.loads g.fit.loads;
+    }
+
+pub entry_passes : (s : Scene) (p : Program) (n : ℕ) (f : Function) (facts : Facts) (limits : Limits) (e : Lifted (List AbsVal)) → IsSceneOf s p n f facts limits → IsGiven p f facts limits → e ≡ entry_row f facts.formals limits.size limits.ends →
+    file_by s.limits.now.size s.limits.now.ends (length s.registers.now) e ≡ true
+entry_passes s p n f facts limits e h g k =
+    let law : IsLawful limits.ends = subst IsLawful (sym g.ends) (list_lawful p) in
+    let same : file_by s.limits.now.size s.limits.now.ends (length s.registers.now) e ≡ file_by limits.size limits.ends (length (f.params ++ f.registers)) (entry_row f facts.formals limits.size limits.ends) =
+    λ i. file_by (h.thresholds i).size (h.thresholds i).ends (length (h.registers i)) (k i) in
+    same ∙ is_file limits.size limits.ends (length (f.params ++ f.registers)) (entry_row f facts.formals limits.size limits.ends) (entry_fits f facts limits.size limits.ends law g.fit)
+
+-- ---- numbers
+
+blocks_within : (bs : List Block) → length bs ≤ sum_by size_of_block bs
+blocks_within [] = omega arith
+blocks_within (b ∷ bs) = let rest = blocks_within bs in omega (arith, rest)
+
+body_within : (bs : List Block) (k : ℕ) (b : Block) → slice_get bs k ≡ Some b → length b.body ≤ sum_by size_of_block bs
+body_within [] k b e = cc
+body_within (x ∷ bs) zero b e =
+    let is : x ≡ b = cc in
+    let same : length x.body ≡ length b.body = ap (λ (y : Block). length y.body) is in
+    omega (arith, same)
+body_within (x ∷ bs) (suc k) b e = let rest = body_within bs k b e in omega (arith, rest)
+
+pub are_few : (bs : List Block) (branches : ℕ) → sum_by size_of_block bs < 2 ^ 32 → branches < 2 ^ 32 → AreFew bs branches
+are_few bs branches h g = record {
+  blocks_few = let w = blocks_within bs in omega (arith, w, h);
+  branches_few = g;
+  bodies_few = λ k b e. let w = body_within bs k b e in omega (arith, w, h);
+}
+
+pub fewer : (bs : List Block) (branches : ℕ) → AreFew bs branches → AreFew bs 0
+fewer bs branches h = record { blocks_few = h.blocks_few; branches_few = omega arith; bodies_few = h.bodies_few }
+
+function_within : (fs : List Function) (k : ℕ) (f : Function) → slice_get fs k ≡ Some f → size_of_function f ≤ sum_by size_of_function fs
+function_within [] k f e = cc
+function_within (x ∷ fs) zero f e =
+    let is : x ≡ f = cc in
+    let same : size_of_function x ≡ size_of_function f = ap size_of_function is in
+    omega (arith, same)
+function_within (x ∷ fs) (suc k) f e = let rest = function_within fs k f e in omega (arith, rest)
+
+-- ---- that the solution fits
+
+each_of : (P : Lifted (List AbsVal) → Type 0) (xs : List (Lifted (List AbsVal))) (d : ℕ → Lifted (List AbsVal)) → ((n : ℕ) → n < length xs → P (slice_index_or xs n (d n))) → Each P xs
+each_of P [] d h = tt
+each_of P (x ∷ xs) d h = (h 0 (omega arith), each_of P xs (λ n. d (suc n)) (λ n l. h (suc n) (omega (arith, l))))
+
+pub begins_fit : (s : Scene) (blocks : List Block) (e : Lifted (List AbsVal)) (xs : List (Lifted (List AbsVal))) → Carried s → AreBegins (body_in s) blocks e xs → Each (FitsIn s) xs
+begins_fit s blocks e xs c h =
+    each_of (FitsIn s) xs (equations_of (body_in s) blocks e).start
+    (λ n l. fits_in s (value_at (equations_of (body_in s) blocks e) xs n) c (h.solves.fit n (subst (λ m. n < m) h.solves.one_each l)))
+
+-- ---- the rows
+
+row_in : (B : Body) (k j : ℕ) (ss : List Stmt) (x : Lifted (List AbsVal)) (i : ℕ) → i ≤ length ss → value_or (slice_get (rows_from B k j ss x) i) ≡ after_body B k j (take i ss) x
+row_in B k j [] x zero l = refl
+row_in B k j [] x (suc i) l = absurd (omega (arith, l))
+row_in B k j (s ∷ ss) x zero l = refl
+row_in B k j (s ∷ ss) x (suc i) l = row_in B k (j + 1) ss (where_reached x (after_stmt B k j s)) i (omega (arith, l))
+
+row_past : (B : Body) (k j : ℕ) (ss : List Stmt) (x : Lifted (List AbsVal)) (i : ℕ) → length ss < i → value_or (slice_get (rows_from B k j ss x) i) ≡ NotReached
+row_past B k j [] x zero l = absurd (omega (arith, l))
+row_past B k j [] x (suc i) l = refl
+row_past B k j (s ∷ ss) x zero l = absurd (omega (arith, l))
+row_past B k j (s ∷ ss) x (suc i) l = row_past B k (j + 1) ss (where_reached x (after_stmt B k j s)) i (omega (arith, l))
+
+past : (i n : ℕ) → nat_le i n ≡ false → n < i
+past i n h = grind (arith, nat_tests, h)
+
+row_of_block : (B : Body) (k : ℕ) (ss : List Stmt) (x : Lifted (List AbsVal)) (i : ℕ) → value_or (slice_get (rows_from B k 0 ss x) i) ≡ cond (nat_le i (length ss)) (after_body B k 0 (take i ss) x) NotReached
+row_of_block B k ss x i = by (nat_le i (length ss)) refl
+  where
+    by : (b : Bool) → nat_le i (length ss) ≡ b → value_or (slice_get (rows_from B k 0 ss x) i) ≡ cond b (after_body B k 0 (take i ss) x) NotReached
+    by true e = row_in B k 0 ss x i (leb-true i (length ss) e)
+    by false e = row_past B k 0 ss x i (past i (length ss) e)
+
+row_of : (B : Body) (j : ℕ) (bs : List Block) (xs : List (Lifted (List AbsVal))) → length xs ≡ length bs → (k i : ℕ) →
+    found_row (block_rows B j bs xs) k i ≡ cond (is_index (slice_get bs k) i) (after_body B (j + k) 0 (take i (body_at (slice_get bs k))) (value_or (slice_get xs k))) NotReached
+row_of B j [] xs e k i = refl
+row_of B j (b ∷ bs) [] e k i = absurd (omega (arith, e))
+row_of B j (b ∷ bs) (x ∷ xs) e zero i =
+    let z : j ≡ j + 0 = omega arith in
+    row_of_block B j b.body x i ∙ ap (λ (m : ℕ). cond (nat_le i (length b.body)) (after_body B m 0 (take i b.body) x) NotReached) z
+row_of B j (b ∷ bs) (x ∷ xs) e (suc k) i =
+    let z : (j + 1) + k ≡ j + suc k = omega arith in
+    row_of B (j + 1) bs xs (omega (arith, e)) k i
+    ∙ ap (λ (m : ℕ). cond (is_index (slice_get bs k) i) (after_body B m 0 (take i (body_at (slice_get bs k))) (value_or (slice_get xs k))) NotReached) z
+
+row_at_point : (B : Body) (bs : List Block) (xs : List (Lifted (List AbsVal))) → length xs ≡ length bs → (k i : ℕ) → found_row (block_rows B 0 bs xs) k i ≡ point_row B bs xs k i
+unfolding values_at
+row_at_point B bs xs e k i =
+    let z : 0 + k ≡ k = omega arith in
+    row_of B 0 bs xs e k i
+    ∙ ap (λ (m : ℕ). cond (is_index (slice_get bs k) i) (after_body B m 0 (take i (body_at (slice_get bs k))) (value_or (slice_get xs k))) NotReached) z
+
+-- ---- the values
+
+body_is : (s : Scene) (p : Program) (n : ℕ) (f : Function) (facts : Facts) (limits : Limits) → IsSceneOf s p n f facts limits → body_in s ≡ body_of p n f facts limits.size limits.ends
+body_is s p n f facts limits h = λ i. record {
+  structs = (h.program i).structs;
+  globals = (h.program i).globals;
+  locals = h.locals i;
+  registers = h.registers i;
+  most = (h.thresholds i).size;
+  ends = (h.thresholds i).ends;
+  loads = given_load (h.loads i) (h.number i);
+}
+
+found_by : (p : Program) (n : ℕ) (f : Function) (facts : Facts) (limits : Limits) (rs : List Register) (rows : List (List (Lifted (List AbsVal)))) → rs ≡ f.params ++ f.registers →
+    AreRows (body_of p n f facts limits.size limits.ends) f.blocks (entry_row f facts.formals limits.size limits.ends) rows → AreFound p n f facts limits (record { function = n; registers = rs; limits = limits; rows = rows })
+found_by p n f facts limits rs rows e r = record {
+  begins = r.begins;
+  values = r.least;
+  points = λ k i. ap (λ (ys : List (List (Lifted (List AbsVal)))). found_row ys k i) r.are ∙ row_at_point (body_of p n f facts limits.size limits.ends) f.blocks r.begins r.least.solves.one_each k i;
+  function = refl;
+  registers = e;
+  made_with = refl;
+}
+
+pub found_of : (s : Scene) (p : Program) (n : ℕ) (f : Function) (facts : Facts) (limits : Limits) (rs : List Register) (blocks : List Block) (entry : Lifted (List AbsVal)) (rows : List (List (Lifted (List AbsVal)))) → IsSceneOf s p n f facts limits →
+    rs ≡ f.params ++ f.registers → blocks ≡ f.blocks → entry ≡ entry_row f facts.formals limits.size limits.ends → AreRows (body_in s) blocks entry rows → AreFound p n f facts limits (record { function = n; registers = rs; limits = limits; rows = rows })
+found_of s p n f facts limits rs blocks entry rows h e b k r =
+    found_by p n f facts limits rs rows e
+    (subst (λ B. AreRows B f.blocks (entry_row f facts.formals limits.size limits.ends) rows) (body_is s p n f facts limits h)
+    (subst (λ x. AreRows (body_in s) f.blocks x rows) k (subst (λ bs. AreRows (body_in s) bs entry rows) b r)))
+
+-- ---- of a function by its number
+
+of_function : (P : Function → Type 0) (o : Option Function) (f : Function) → o ≡ Some f → IsSomeAnd o P → P f
+of_function P None f e h = cc
+of_function P (Some g) f e h = let same : g ≡ f = cc in subst P same h
+
+to_function : (P : Function → Type 0) (o : Option Function) (f : Function) → o ≡ Some f → P f → IsSomeAnd o P
+to_function P o f e h = subst (λ x. IsSomeAnd x P) (sym e) h
+
+pub given_by : (p : Program) (n : ℕ) (f : Function) (facts : Facts) (most : ℕ) (limits : Limits) → slice_get p.functions n ≡ Some f → IsAccepted p → length p.globals < 2 ^ 32 → size_of_program p < 2 ^ 32 →
+    OfFunction p n (λ f. length (branches_of f.blocks) < 2 ^ 32) → OfFunction p n (λ f. FactsFit f facts most (thresholds_list p)) → limits.size ≡ most → limits.ends ≡ thresholds_list p → IsGiven p f facts limits
+given_by p n f facts most limits e accepted globals size branches fit m ts = record {
+  accepted = accepted;
+  globals = globals;
+  size = let w = function_within p.functions n f e in omega (arith, w, size);
+  branches = of_function (λ f. length (branches_of f.blocks) < 2 ^ 32) (slice_get p.functions n) f e branches;
+  ends = ts;
+  fit = subst (λ us. FactsFit f facts limits.size us) (sym ts) (subst (λ k. FactsFit f facts k (thresholds_list p)) (sym m) (of_function (λ f. FactsFit f facts most (thresholds_list p)) (slice_get p.functions n) f e fit));
+}
+
+pub found_in : (p : Program) (n : ℕ) (f : Function) (facts : Facts) (most : ℕ) (limits : Limits) (t : Found) → slice_get p.functions n ≡ Some f → limits.size ≡ most → limits.ends ≡ thresholds_list p → AreFound p n f facts limits t →
+    OfFunction p n (λ f. AreFound p n f facts (record { size = most; ends = thresholds_list p }) t)
+found_in p n f facts most limits t e m ts h =
+    let same : limits ≡ record { size = most; ends = thresholds_list p } = λ i. record { size = m i; ends = ts i } in
+    to_function (λ f. AreFound p n f facts (record { size = most; ends = thresholds_list p }) t) (slice_get p.functions n) f e (subst (λ l. AreFound p n f facts l t) same h)

@@ -1,0 +1,49 @@
+-- What the values of a function are made from.
+use Rattle.std.specs.Prelude.{◌≡◌, ℕ, ◌<◌, ◌^◌, List, ◌∷◌, ◌++◌, length}
+use Rattle.gimple_ir.specs.declared.block.Block.{Block}
+use Rattle.gimple_ir.specs.declared.program.Function.{Function}
+use Rattle.gimple_ir.specs.declared.program.Program.{Program}
+use Rattle.gimple_core.specs.Sealed.{IsAccepted}
+use Rattle.gimple_core.specs.Size.{size_of_function}
+use Rattle.fix_engine.specs.declared.lifted.Lifted.{Lifted}
+use Rattle.fix_engine.specs.Lifted.{FitsLifted, lifted_below}
+use Rattle.fix_engine.specs.Rows.{FitsRows, rows_below}
+use Rattle.fix_engine.specs.Least.{IsLeast}
+use Rattle.value_domain.specs.declared.abs_val.AbsVal.{AbsVal}
+use Rattle.value_domain.specs.Values.{FitsAbsVal, abs_val_below, kind_of}
+use Rattle.value_domain.specs.Thresholds.{Limits, thresholds_list}
+use Rattle.body_values.specs.declared.facts.Facts.{Facts}
+use Rattle.body_values.specs.declared.scene.Scene.{Scene}
+use Rattle.body_values.specs.Bodies.{Body}
+use Rattle.body_values.specs.Flow.{branches_of, equations_of}
+use Rattle.body_values.specs.PointRows.{block_rows}
+use Rattle.body_values.specs.Scenes.{body_in}
+use Rattle.body_values.specs.System.{FactsFit}
+
+-- the program has no type fault, its parts have numbers, the thresholds are its own, and the facts fit
+pub record IsGiven (p : Program) (f : Function) (facts : Facts) (limits : Limits) : Type 0 where
+  pub accepted : IsAccepted p
+  pub globals : length p.globals < 2 ^ 32
+  pub size : size_of_function f < 2 ^ 32
+  pub branches : length (branches_of f.blocks) < 2 ^ 32
+  pub ends : limits.ends ≡ thresholds_list p
+  pub fit : FactsFit f facts limits.size limits.ends
+
+-- what the code has is that of the function
+pub record IsSceneOf (s : Scene) (p : Program) (n : ℕ) (f : Function) (facts : Facts) (limits : Limits) : Type 0 where
+  pub program : s.program.now ≡ p
+  pub number : s.number ≡ n
+  pub locals : s.locals.now ≡ f.locals
+  pub registers : s.registers.now ≡ f.params ++ f.registers
+  pub loads : s.loads.now ≡ facts.loads
+  pub thresholds : s.limits.now ≡ limits
+
+-- the least solution of the system of a body
+abbrev pub AreBegins : Body → List Block → Lifted (List AbsVal) → List (Lifted (List AbsVal)) → Type 0
+AreBegins B blocks entry xs = IsLeast (FitsLifted (FitsRows FitsAbsVal) (length B.registers ∷ kind_of B.most B.ends)) (lifted_below (rows_below abs_val_below)) (equations_of B blocks entry) xs
+
+-- the values at each index of each block, by the least solution
+pub record AreRows (B : Body) (blocks : List Block) (entry : Lifted (List AbsVal)) (rows : List (List (Lifted (List AbsVal)))) : Type 0 where
+  pub begins : List (Lifted (List AbsVal))
+  pub least : AreBegins B blocks entry begins
+  pub are : rows ≡ block_rows B 0 blocks begins

@@ -1,0 +1,95 @@
+//! The branches of a function's blocks in order.
+
+ghost use Rattle.std.specs.Prelude.{◌≡◌, ◌<◌, ◌^◌, ◌++◌, ◌∷◌, [], length, map, IfOk, OnOk, IfSome};
+ghost use Rattle.gimple_core.specs.Run.{block_place, place_or};
+ghost use Rattle.body_values.specs.Flow.{labels_of, branches_to, branches_from, branches_of};
+
+use crate::branches::Branch;
+use gimple_core::{Block, Case, End, OutOfMemory};
+use std::alloc::Global;
+
+/// The number of the first block of a label.
+fn place_of_label(blocks: &[Block], label: u64) -> Option<usize>
+    ensures value { result ≡ block_place label blocks.now }
+    ensures within { IfSome result (λ k. k < length blocks.now) }
+{
+    blocks.iter().position(|b| b.label == label)
+}
+
+/// The branch to a label; where no block has it, to the first one.
+fn branch(blocks: &[Block], source: u32, slot: usize, label: u64) -> Branch
+    requires blocks { length blocks.now < 2 ^ 32 }
+    requires slot { slot < 2 ^ 32 }
+    ensures { result ≡ record { source = source; slot = slot; target = place_or (block_place label blocks.now) } }
+{
+    let target = match place_of_label(blocks, label) {
+        Some(place) => place as u32,
+        None => 0,
+    };
+    Branch {
+        source,
+        slot: slot as u32,
+        target,
+    }
+}
+
+fn switch_labels(alloc: Global, cases: &[Case], other: u64) -> Result<Vec<u64>, OutOfMemory>
+    ensures { IfOk result (λ v. v.items ≡ map (λ c. c.target) cases.now ++ other ∷ []) }
+{
+    let mut labels = Vec::new(alloc);
+    for at in 0..cases.len() {
+        labels.push(cases[at].target)?;
+    }
+    labels.push(other)?;
+    Ok(labels)
+}
+
+/// The labels that an end leads to, in its branches' order.
+fn labels(alloc: Global, end: &End) -> Result<Vec<u64>, OutOfMemory>
+    ensures { IfOk result (λ v. v.items ≡ labels_of end.now) }
+{
+    match end {
+        End::Goto(label) => Ok(Vec::from_array(alloc, [*label])?),
+        End::If {
+            left: _,
+            cmp: _,
+            right: _,
+            yes,
+            no,
+        } => Ok(Vec::from_array(alloc, [*yes, *no])?),
+        End::Switch { on: _, cases, other } => switch_labels(alloc, cases.as_slice(), *other),
+        End::Return(_) => Ok(Vec::new(alloc)),
+    }
+}
+
+/// Puts the branches of a block behind the others.
+fn put_branches(
+    blocks: &[Block],
+    source: u32,
+    labels: &[u64],
+    found: &mut Vec<Branch>,
+) -> Result<(), OutOfMemory>
+    requires blocks { length blocks.now < 2 ^ 32 }
+    requires labels { length labels.now < 2 ^ 32 }
+    ensures { OnOk result (found.new.items ≡ found.old.items ++ branches_to blocks.now source 0 labels.now) }
+{
+    for slot in 0..labels.len() {
+        found.push(branch(blocks, source, slot, labels[slot]))?;
+    }
+    Ok(())
+}
+
+/// The branches of blocks, those of each end in its order.
+#[tactic(auto, unfolding(crate::specs::Flow::branches_of))]
+pub fn branches_of(alloc: Global, blocks: &[Block]) -> Result<Vec<Branch>, OutOfMemory>
+    requires blocks { length blocks.now < 2 ^ 32 }
+    requires few { length (branches_of blocks.now) < 2 ^ 32 }
+    ensures { IfOk result (λ v. v.items ≡ branches_of blocks.now) }
+{
+    let mut found = Vec::new(alloc);
+    for source in 0..blocks.len() {
+        let labels = labels(alloc, &blocks[source].end)?;
+        put_branches(blocks, source as u32, labels.as_slice(), &mut found)?;
+    }
+    Ok(found)
+}

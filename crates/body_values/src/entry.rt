@@ -1,0 +1,88 @@
+//! The registers of a function, and their values at its entry.
+
+ghost use Rattle.std.specs.Prelude.{◌≡◌, ◌++◌, map, IfOk, OnOk};
+ghost use Rattle.std.specs.List.{list_any};
+ghost use Rattle.value_domain.specs.Values.{is_none_val};
+ghost use Rattle.body_values.specs.Flow.{zero_constant, zero_value, entry_row};
+
+use crate::scene::pointer;
+use fix_engine::{Lattice, Lifted, Rows};
+use gimple_core::{Constant, Exact, Function, OutOfMemory, Register, Registers};
+use std::alloc::Global;
+use value_domain::{AbsVal, Thresholds, exactly};
+
+fn is_none(value: &AbsVal) -> bool
+    ensures { result ≡ is_none_val value.now }
+{
+    value.range.high < value.range.low
+}
+
+fn any_none(values: &[AbsVal]) -> bool
+    ensures { result ≡ list_any is_none_val values.now }
+{
+    values.iter().any(|value| is_none(value))
+}
+
+/// The value of zero or null.
+fn zero(alloc: Global, register: &Register, limits: &Thresholds) -> Result<AbsVal, OutOfMemory>
+    ensures { IfOk result (λ v. v ≡ zero_value limits.now.size limits.now.ends register.now) }
+{
+    if pointer(register.scalar) {
+        return exactly(alloc, register.scalar, Constant::Null, limits);
+    }
+    exactly(alloc, register.scalar, Constant::Int(0), limits)
+}
+
+fn copies(alloc: Global, values: &[AbsVal]) -> Result<Vec<AbsVal>, OutOfMemory>
+    ensures { IfOk result (λ v. v.items ≡ values.now) }
+{
+    let mut row = Vec::new(alloc);
+    for at in 0..values.len() {
+        row.push(values[at].copy()?)?;
+    }
+    Ok(row)
+}
+
+fn put_zeros(
+    alloc: Global,
+    registers: &[Register],
+    limits: &Thresholds,
+    row: &mut Vec<AbsVal>,
+) -> Result<(), OutOfMemory>
+    ensures { OnOk result (row.new.items ≡ row.old.items ++ map (zero_value limits.now.size limits.now.ends) registers.now) }
+{
+    for at in 0..registers.len() {
+        row.push(zero(alloc, &registers[at], limits)?)?;
+    }
+    Ok(())
+}
+
+/// The values of registers at the entry of a function: the facts of formals, and zero or null of registers. Where a fact
+/// is none, the entry is not reached.
+pub fn entry_row(
+    alloc: Global,
+    function: &Function,
+    formals: &[AbsVal],
+    limits: &Thresholds,
+) -> Result<Lifted<Rows<AbsVal>>, OutOfMemory>
+    ensures { IfOk result (λ x. x ≡ entry_row function.now formals.now limits.now.size limits.now.ends) }
+{
+    if any_none(formals) {
+        return Ok(Lifted::NotReached);
+    }
+    let mut row = copies(alloc, formals)?;
+    put_zeros(alloc, function.registers.as_slice(), limits, &mut row)?;
+    Ok(Lifted::Reached(Rows::new(row)))
+}
+
+/// The registers of a function, the formals first.
+pub fn registers_of(function: &Function) -> Result<Registers, OutOfMemory>
+    ensures { IfOk result (λ rs. rs ≡ function.now.params ++ function.now.registers) }
+{
+    let mut all = function.params.copy()?;
+    let registers = function.registers.as_slice();
+    for at in 0..registers.len() {
+        all.push(registers[at].copy()?)?;
+    }
+    Ok(all)
+}

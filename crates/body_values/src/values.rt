@@ -1,0 +1,210 @@
+//! The values of a function's registers at each of its points.
+
+ghost use Rattle.std.specs.Prelude.{◌≡◌, ◌<◌, ◌^◌, ◌++◌, length, IfOk};
+ghost use Rattle.std.specs.Option.{option_copied};
+ghost use Rattle.gimple_core.specs.Size.{size_of_program};
+ghost use Rattle.value_domain.specs.Thresholds.{thresholds_list};
+ghost use Rattle.body_values.specs.Fitting.{file_by};
+ghost use Rattle.body_values.specs.Flow.{branches_of};
+ghost use Rattle.body_values.specs.Found.{OfFunction, AreFound, found_at, found_row, value_of};
+ghost use Rattle.body_values.specs.Ready.{Carried, AreFew};
+ghost use Rattle.body_values.specs.Scenes.{body_in};
+ghost use Rattle.body_values.specs.Setting.{IsGiven, IsSceneOf, AreBegins, AreRows};
+ghost use Rattle.body_values.specs.System.{FactsFit};
+
+use crate::branching::branches_of;
+use crate::entry::{entry_row, registers_of};
+use crate::facts::Facts;
+use crate::flow::ValueFlow;
+use crate::point_rows::PointRows;
+use crate::scene::{Scene, place_of};
+use fix_engine::{Lifted, Rows, Solver};
+use gimple_core::{
+    Block, Checked, Function, Listed, OutOfMemory, Params, Point, Program, Register, Registers,
+    Text,
+};
+use std::alloc::Global;
+use std::marker::Model;
+use value_domain::{AbsVal, Thresholds, thresholds_of};
+
+/// The values of a function's registers at each of its points, and the thresholds that they were made with.
+#[derive(Debug, Drop)]
+pub struct BodyValues {
+    function: u32,
+    registers: Registers,
+    limits: Thresholds,
+    rows: Listed<PointRows>,
+}
+
+impl Model for BodyValues {
+    ghost use Rattle.body_values.specs.Found.{Found};
+
+    ghost Value = { Found };
+
+    ghost view = { λ v. record { function = v.function; registers = v.registers; limits = v.limits; rows = v.rows } };
+}
+
+fn value_of(values: &Lifted<Rows<AbsVal>>, place: usize) -> Option<&AbsVal>
+    ensures { option_copied result ≡ value_of place values.now }
+{
+    match values {
+        Lifted::NotReached => None,
+        Lifted::Reached(row) => row.as_slice().get(place),
+    }
+}
+
+fn value_at(rows: &Listed<PointRows>, point: Point, place: usize) -> Option<&AbsVal>
+    ensures { option_copied result ≡ value_of place (found_row rows.now point.block point.index) }
+{
+    let Some(row) = rows.get(point.block as usize) else {
+        return None;
+    };
+    let Some(values) = row.get(point.index as usize) else {
+        return None;
+    };
+    value_of(values, place)
+}
+
+impl BodyValues {
+    /// The value of a register at a point of the function. None exactly where the point is not reached, or the name is no
+    /// register of the function; a point that the function does not have is not reached.
+    pub fn at(&self, point: Point, register: &Text) -> Option<&AbsVal>
+        ensures { option_copied result ≡ found_at self.now point register.now }
+    {
+        if point.function != self.function {
+            return None;
+        }
+        value_at(&self.rows, point, place_of(self.registers.as_slice(), register))
+    }
+
+    /// The number of the function.
+    pub fn function(&self) -> u32
+        ensures { result ≡ self.now.function }
+    {
+        self.function
+    }
+
+    /// The thresholds that the values were made with.
+    pub fn limits(&self) -> &Thresholds
+        ensures { result.now ≡ self.now.limits }
+    {
+        &self.limits
+    }
+}
+
+/// The values at the begin of each block: the least solution.
+fn begins<'a, S: Solver>(
+    scene: Scene<'a>,
+    blocks: &'a [Block],
+    entry: &'a Lifted<Rows<AbsVal>>,
+    solver: &mut S,
+) -> Result<Vec<Lifted<Rows<AbsVal>>>, OutOfMemory>
+    requires carried { Carried scene }
+    requires few { AreFew blocks.now (length (branches_of blocks.now)) }
+    requires entry { file_by scene.limits.now.size scene.limits.now.ends (length scene.registers.now) entry.now ≡ true }
+    ensures { IfOk result (λ v. AreBegins (body_in scene) blocks.now entry.now v.items) }
+{
+    let branches = branches_of(scene.alloc, blocks)?;
+    let flow = ValueFlow {
+        scene,
+        blocks,
+        branches: branches.as_slice(),
+        entry,
+    };
+    let found = solver.solve(scene.alloc, &flow)?;
+    Ok(found.into_vec())
+}
+
+/// The values at each index of each block.
+fn rows_of<'a, S: Solver>(
+    scene: Scene<'a>,
+    blocks: &'a [Block],
+    entry: &'a Lifted<Rows<AbsVal>>,
+    solver: &mut S,
+) -> Result<Listed<PointRows>, OutOfMemory>
+    requires carried { Carried scene }
+    requires few { AreFew blocks.now (length (branches_of blocks.now)) }
+    requires entry { file_by scene.limits.now.size scene.limits.now.ends (length scene.registers.now) entry.now ≡ true }
+    ensures { IfOk result (AreRows (body_in scene) blocks.now entry.now) }
+{
+    let begins = begins(scene, blocks, entry, solver)?;
+    let rows = scene.rows(blocks, begins.as_slice())?;
+    Ok(rows)
+}
+
+fn scene_of<'a>(
+    program: &'a Program,
+    number: u32,
+    function: &'a Function,
+    registers: &'a [Register],
+    facts: &'a Facts,
+    limits: &'a Thresholds,
+    alloc: Global,
+) -> Scene<'a>
+    requires { registers.now ≡ function.now.params ++ function.now.registers }
+    ensures { IsSceneOf result program.now number function.now facts.now limits.now }
+{
+    Scene {
+        program,
+        locals: function.locals.as_slice(),
+        registers,
+        loads: facts.loads.as_slice(),
+        number,
+        limits,
+        alloc,
+    }
+}
+
+fn values_with<S: Solver>(
+    alloc: Global,
+    program: &Program,
+    number: u32,
+    function: &Function,
+    facts: &Facts,
+    limits: Thresholds,
+    solver: &mut S,
+) -> Result<BodyValues, OutOfMemory>
+    requires { IsGiven program.now function.now facts.now limits }
+    ensures { IfOk result (AreFound program.now number function.now facts.now limits) }
+{
+    let registers = registers_of(function)?;
+    let entry = entry_row(alloc, function, facts.formals.as_slice(), &limits)?;
+    let scene = scene_of(
+        program,
+        number,
+        function,
+        registers.as_slice(),
+        facts,
+        &limits,
+        alloc,
+    );
+    let rows = rows_of(scene, function.blocks.as_slice(), &entry, solver)?;
+    Ok(BodyValues {
+        function: number,
+        registers,
+        limits,
+        rows,
+    })
+}
+
+/// The values of a function's registers at each of its points, from facts of its formals and loads.
+pub fn values_of<S: Solver>(
+    alloc: Global,
+    program: &Checked,
+    function: u32,
+    facts: &Facts,
+    solver: &mut S,
+    limits: &Params,
+) -> Result<BodyValues, OutOfMemory>
+    requires function { function < length program.now.program.functions }
+    requires globals { length program.now.program.globals < 2 ^ 32 }
+    requires size { size_of_program program.now.program < 2 ^ 32 }
+    requires branches { OfFunction program.now.program function (λ f. length (branches_of f.blocks) < 2 ^ 32) }
+    requires facts { OfFunction program.now.program function (λ f. FactsFit f facts.now limits.now.ipa_cp_value_list_size (thresholds_list program.now.program)) }
+    ensures { IfOk result (λ v. OfFunction program.now.program function (λ f. AreFound program.now.program function f facts.now (record { size = limits.now.ipa_cp_value_list_size; ends = thresholds_list program.now.program }) v)) }
+{
+    let thresholds = thresholds_of(alloc, program, limits)?;
+    let program = program.program();
+    let of = &program.functions.as_slice()[function as usize];
+    values_with(alloc, program, function, of, facts, thresholds, solver)
+}
