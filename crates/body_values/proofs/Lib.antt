@@ -13,3 +13,4 @@ pub mod Flowing
 pub mod BranchCounts
 pub mod Layouts
 pub mod Settled
+pub mod ExampleLaws

@@ -1,8 +1,10 @@
 -- What the code asks of a function and of its values.
-use Rattle.std.proofs.Common.{◌≡◌, ℕ, zero, suc, ◌+◌, ◌<◌, ◌≤◌, ◌^◌, nat_le, ℤ, Bool, true, false, cond, List, [], ◌∷◌, ◌++◌, take, length, Option, Some, None, IsSomeAnd, slice_get, refl, sym, ◌∙◌, ap, subst, arith}
+use Rattle.std.proofs.Common.{◌≡◌, ℕ, zero, suc, ◌+◌, ◌<◌, ◌≤◌, ◌^◌, nat_le, ℤ, Bool, true, false, cond, List, [], ◌∷◌, ◌++◌, take, length, Option, Some, None, IsSomeAnd, slice_get, get_or, refl, sym, ◌∙◌, ap, subst, arith}
 use Rattle.std.specs.Prelude.{slice_index_or, sum_by, find}
 use Rattle.std.proofs.lemmas.Bool.Decides.{nat_tests}
 use Rattle.std.proofs.lemmas.Bool.{leb-true}
+use Rattle.std.proofs.lemmas.List.Sums.{sum_by-cons}
+use Rattle.std.proofs.lemmas.Option.{slice_get-get_or}
 use Rattle.gimple_ir.specs.declared.statement.Stmt.{Stmt}
 use Rattle.gimple_ir.specs.declared.declarations.Global.{Global}
 use Rattle.gimple_ir.specs.declared.declarations.Register.{Register}
@@ -24,6 +26,7 @@ use Rattle.value_domain.specs.Thresholds.{Limits, IsLawful, thresholds_list}
 use Rattle.value_domain.proofs.LawfulLemmas.{list_lawful}
 use Rattle.body_values.specs.declared.facts.Facts.{Facts}
 use Rattle.body_values.specs.declared.facts.LoadFact.{LoadFact}
+use Rattle.body_values.specs.declared.branches.Branch.{Branch}
 use Rattle.body_values.specs.declared.scene.Scene.{Scene}
 use Rattle.body_values.specs.Bodies.{Body, where_reached, after_stmt, after_body}
 use Rattle.body_values.specs.Fitting.{fits_by, is_fitting, file_by, is_file}
@@ -68,15 +71,15 @@ entry_passes s p n f facts limits e h g k =
 
 blocks_within : (bs : List Block) → length bs ≤ sum_by size_of_block bs
 blocks_within [] = omega arith
-blocks_within (b ∷ bs) = let rest = blocks_within bs in omega (arith, rest)
+blocks_within (b ∷ bs) = let rest = blocks_within bs in omega (arith, rest, sum_by-cons size_of_block b bs)
 
 body_within : (bs : List Block) (k : ℕ) (b : Block) → slice_get bs k ≡ Some b → length b.body ≤ sum_by size_of_block bs
 body_within [] k b e = cc
 body_within (x ∷ bs) zero b e =
     let is : x ≡ b = cc in
     let same : length x.body ≡ length b.body = ap (λ (y : Block). length y.body) is in
-    omega (arith, same)
-body_within (x ∷ bs) (suc k) b e = let rest = body_within bs k b e in omega (arith, rest)
+    omega (arith, same, sum_by-cons size_of_block x bs)
+body_within (x ∷ bs) (suc k) b e = let rest = body_within bs k b e in omega (arith, rest, sum_by-cons size_of_block x bs)
 
 pub are_few : (bs : List Block) (branches : ℕ) → sum_by size_of_block bs < 2 ^ 32 → branches < 2 ^ 32 → AreFew bs branches
 are_few bs branches h g = record {
@@ -88,13 +91,16 @@ are_few bs branches h g = record {
 pub fewer : (bs : List Block) (branches : ℕ) → AreFew bs branches → AreFew bs 0
 fewer bs branches h = record { blocks_few = h.blocks_few; branches_few = omega arith; bodies_few = h.bodies_few }
 
+pub few_as : (blocks : List Block) (bs : List Branch) → bs ≡ branches_of blocks → AreFew blocks (length (branches_of blocks)) → AreFew blocks (length bs)
+few_as blocks bs e h = subst (λ ys. AreFew blocks (length ys)) (sym e) h
+
 function_within : (fs : List Function) (k : ℕ) (f : Function) → slice_get fs k ≡ Some f → size_of_function f ≤ sum_by size_of_function fs
 function_within [] k f e = cc
 function_within (x ∷ fs) zero f e =
     let is : x ≡ f = cc in
     let same : size_of_function x ≡ size_of_function f = ap size_of_function is in
-    omega (arith, same)
-function_within (x ∷ fs) (suc k) f e = let rest = function_within fs k f e in omega (arith, rest)
+    omega (arith, same, sum_by-cons size_of_function x fs)
+function_within (x ∷ fs) (suc k) f e = let rest = function_within fs k f e in omega (arith, rest, sum_by-cons size_of_function x fs)
 
 -- ---- that the solution fits
 
@@ -102,10 +108,17 @@ each_of : (P : Lifted (List AbsVal) → Type 0) (xs : List (Lifted (List AbsVal)
 each_of P [] d h = tt
 each_of P (x ∷ xs) d h = (h 0 (omega arith), each_of P xs (λ n. d (suc n)) (λ n l. h (suc n) (omega (arith, l))))
 
-pub begins_fit : (s : Scene) (blocks : List Block) (e : Lifted (List AbsVal)) (xs : List (Lifted (List AbsVal))) → Carried s → AreBegins (body_in s) blocks e xs → Each (FitsIn s) xs
-begins_fit s blocks e xs c h =
-    each_of (FitsIn s) xs (equations_of (body_in s) blocks e).start
-    (λ n l. fits_in s (value_at (equations_of (body_in s) blocks e) xs n) c (h.solves.fit n (subst (λ m. n < m) h.solves.one_each l)))
+pub begins_fit : (s : Scene) (blocks : List Block) (e : Lifted (List AbsVal)) (xs ys : List (Lifted (List AbsVal))) → Carried s → AreBegins (body_in s) blocks e xs → ys ≡ xs → Each (FitsIn s) ys
+begins_fit s blocks e xs ys c h same =
+    subst (Each (FitsIn s)) (sym same)
+    (each_of (FitsIn s) xs (equations_of (body_in s) blocks e).start
+    (λ n l. fits_in s (value_at (equations_of (body_in s) blocks e) xs n) c (h.solves.fit n (subst (λ m. n < m) h.solves.one_each l))))
+
+pub one_a_block : (B : Body) (blocks : List Block) (e : Lifted (List AbsVal)) (xs ys : List (Lifted (List AbsVal))) → AreBegins B blocks e xs → ys ≡ xs → length ys ≡ length blocks
+one_a_block B blocks e xs ys h same = ap length same ∙ h.solves.one_each
+
+pub rows_are : (B : Body) (blocks : List Block) (e : Lifted (List AbsVal)) (xs ys : List (Lifted (List AbsVal))) (rows : List (List (Lifted (List AbsVal)))) → AreBegins B blocks e xs → ys ≡ xs → rows ≡ block_rows B 0 blocks ys → AreRows B blocks e rows
+rows_are B blocks e xs ys rows h same are = record { begins = xs; least = h; are = are ∙ ap (block_rows B 0 blocks) same }
 
 -- ---- the rows
 
@@ -189,6 +202,13 @@ of_function P (Some g) f e h = let same : g ≡ f = cc in subst P same h
 
 to_function : (P : Function → Type 0) (o : Option Function) (f : Function) → o ≡ Some f → P f → IsSomeAnd o P
 to_function P o f e h = subst (λ x. IsSomeAnd x P) (sym e) h
+
+-- what stands at a number
+pub numbered : (q p : Program) (fs : List Function) (n : ℕ) (f : Function) → q ≡ p → fs ≡ q.functions → n < length p.functions → f ≡ get_or fs n f → slice_get p.functions n ≡ Some f
+numbered q p fs n f e g l is =
+    let all : fs ≡ p.functions = g ∙ ap (λ (x : Program). x.functions) e in
+    let here : f ≡ get_or p.functions n f = subst (λ (xs : List Function). f ≡ get_or xs n f) all is in
+    slice_get-get_or p.functions n f l ∙ ap Some (sym here)
 
 pub given_by : (p : Program) (n : ℕ) (f : Function) (facts : Facts) (most : ℕ) (limits : Limits) → slice_get p.functions n ≡ Some f → IsAccepted p → length p.globals < 2 ^ 32 → size_of_program p < 2 ^ 32 →
     OfFunction p n (λ f. length (branches_of f.blocks) < 2 ^ 32) → OfFunction p n (λ f. FactsFit f facts most (thresholds_list p)) → limits.size ≡ most → limits.ends ≡ thresholds_list p → IsGiven p f facts limits

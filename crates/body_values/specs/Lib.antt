@@ -11,3 +11,4 @@ pub mod Ready
 pub mod PointRows
 pub mod Found
 pub mod Setting
+pub mod Examples

@@ -1,6 +1,6 @@
 //! The values of a function's registers at each of its points.
 
-ghost use Rattle.std.specs.Prelude.{◌≡◌, ◌<◌, ◌^◌, ◌++◌, length, IfOk};
+ghost use Rattle.std.specs.Prelude.{◌≡◌, ◌<◌, ◌^◌, ◌++◌, length, true, IfOk};
 ghost use Rattle.std.specs.Option.{option_copied};
 ghost use Rattle.gimple_core.specs.Size.{size_of_program};
 ghost use Rattle.value_domain.specs.Thresholds.{thresholds_list};
@@ -28,7 +28,7 @@ use std::marker::Model;
 use value_domain::{AbsVal, Thresholds, thresholds_of};
 
 /// The values of a function's registers at each of its points, and the thresholds that they were made with.
-#[derive(Debug, Drop)]
+#[derive(Drop)]
 pub struct BodyValues {
     function: u32,
     registers: Registers,
@@ -93,6 +93,7 @@ impl BodyValues {
 }
 
 /// The values at the begin of each block: the least solution.
+#[tactic(auto, using(crate::proofs::Settled::few_as))]
 fn begins<'a, S: Solver>(
     scene: Scene<'a>,
     blocks: &'a [Block],
@@ -102,7 +103,7 @@ fn begins<'a, S: Solver>(
     requires carried { Carried scene }
     requires few { AreFew blocks.now (length (branches_of blocks.now)) }
     requires entry { file_by scene.limits.now.size scene.limits.now.ends (length scene.registers.now) entry.now ≡ true }
-    ensures { IfOk result (λ v. AreBegins (body_in scene) blocks.now entry.now v.items) }
+    ensures { IfOk result (λ v. AreBegins (body_in scene.entry) blocks.now entry.now v.items) }
 {
     let branches = branches_of(scene.alloc, blocks)?;
     let flow = ValueFlow {
@@ -116,6 +117,7 @@ fn begins<'a, S: Solver>(
 }
 
 /// The values at each index of each block.
+#[tactic(auto, using(crate::specs::Ready::ready_of, crate::proofs::Settled::fewer, crate::proofs::Settled::one_a_block, crate::proofs::Settled::rows_are))]
 fn rows_of<'a, S: Solver>(
     scene: Scene<'a>,
     blocks: &'a [Block],
@@ -125,7 +127,7 @@ fn rows_of<'a, S: Solver>(
     requires carried { Carried scene }
     requires few { AreFew blocks.now (length (branches_of blocks.now)) }
     requires entry { file_by scene.limits.now.size scene.limits.now.ends (length scene.registers.now) entry.now ≡ true }
-    ensures { IfOk result (AreRows (body_in scene) blocks.now entry.now) }
+    ensures { IfOk result (AreRows (body_in scene.entry) blocks.now entry.now) }
 {
     let begins = begins(scene, blocks, entry, solver)?;
     let rows = scene.rows(blocks, begins.as_slice())?;
@@ -206,5 +208,6 @@ pub fn values_of<S: Solver>(
     let thresholds = thresholds_of(alloc, program, limits)?;
     let program = program.program();
     let of = &program.functions.as_slice()[function as usize];
-    values_with(alloc, program, function, of, facts, thresholds, solver)
+    let values = values_with(alloc, program, function, of, facts, thresholds, solver)?;
+    Ok(values)
 }
