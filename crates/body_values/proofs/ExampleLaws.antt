@@ -1,8 +1,7 @@
 -- The example can be analysed.
-use Rattle.std.proofs.Common.{◌≡◌, ℕ, ◌<◌, ◌^◌, ℤ, List, [], ◌∷◌, length, Option, None, Some, IsSomeAnd, slice_get, refl, sym, ap, arith}
+use Rattle.std.proofs.Common.{◌≡◌, ℕ, ◌<◌, ◌^◌, ℤ, List, [], length, Option, None, Some, IsSomeAnd, slice_get, refl, sym, ap, arith}
 use Rattle.gimple_ir.specs.declared.program.Function.{Function}
 use Rattle.gimple_ir.specs.declared.program.Program.{Program}
-use Rattle.gimple_core.specs.Layout.{layout_of}
 use Rattle.gimple_core.specs.Env as e
 use Rattle.gimple_core.specs.Statements as s
 use Rattle.gimple_core.specs.Declarations as d

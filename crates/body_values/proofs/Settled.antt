@@ -19,7 +19,7 @@ use Rattle.fix_engine.specs.Bools.{both}
 use Rattle.fix_engine.specs.Rows.{Each}
 use Rattle.fix_engine.specs.Least.{value_at}
 use Rattle.fix_engine.specs.declared.lifted.Lifted.{Lifted}
-use Rattle.fix_engine.specs.declared.lifted.Lifted.TheVariants.{NotReached, Reached}
+use Rattle.fix_engine.specs.declared.lifted.Lifted.TheVariants.{NotReached}
 use Rattle.value_domain.specs.declared.abs_val.AbsVal.{AbsVal}
 use Rattle.value_domain.specs.Values.{FitsWith}
 use Rattle.value_domain.specs.Thresholds.{Limits, IsLawful, thresholds_list}
@@ -30,8 +30,8 @@ use Rattle.body_values.specs.declared.branches.Branch.{Branch}
 use Rattle.body_values.specs.declared.scene.Scene.{Scene}
 use Rattle.body_values.specs.Bodies.{Body, where_reached, after_stmt, after_body}
 use Rattle.body_values.specs.Fitting.{fits_by, is_fitting, file_by, is_file}
-use Rattle.body_values.specs.Flow.{given_load, body_of, entry_row, branches_of, equations_of, AreValues, body_at, value_or, values_at}
-use Rattle.body_values.specs.Found.{OfFunction, Found, AreFound, rows_or, found_row, is_index, point_row}
+use Rattle.body_values.specs.Flow.{given_load, body_of, entry_row, branches_of, equations_of, body_at, value_or, values_at}
+use Rattle.body_values.specs.Found.{OfFunction, Found, AreFound, found_row, is_index, point_row}
 use Rattle.body_values.specs.PointRows.{rows_from, block_rows}
 use Rattle.body_values.specs.Ready.{loads_by, Carried, AreFew}
 use Rattle.body_values.specs.Scenes.{body_in, FitsIn}

@@ -1,9 +1,8 @@
 -- The values of a function at each of its points.
-use Rattle.std.specs.Prelude.{◌≡◌, ℕ, ◌+◌, ◌==◌, nat_le, Bool, false, if◌then◌else◌, List, [], ◌∷◌, ◌++◌, length, Option, Some, None, IsSomeAnd, slice_get}
+use Rattle.std.specs.Prelude.{◌≡◌, ℕ, ◌==◌, nat_le, Bool, false, if◌then◌else◌, List, [], ◌++◌, length, Option, Some, None, IsSomeAnd, slice_get}
 use Rattle.gimple_ir.specs.declared.declarations.Register.{Register}
 use Rattle.gimple_ir.specs.declared.point.Point.{Point}
 use Rattle.gimple_ir.specs.declared.block.Block.{Block}
-use Rattle.gimple_ir.specs.declared.statement.Stmt.{Stmt}
 use Rattle.gimple_ir.specs.declared.program.Function.{Function}
 use Rattle.gimple_ir.specs.declared.program.Program.{Program}
 use Rattle.fix_engine.specs.declared.lifted.Lifted.{Lifted}
@@ -11,7 +10,7 @@ use Rattle.fix_engine.specs.declared.lifted.Lifted.TheVariants.{NotReached, Reac
 use Rattle.value_domain.specs.declared.abs_val.AbsVal.{AbsVal}
 use Rattle.value_domain.specs.Thresholds.{Limits}
 use Rattle.body_values.specs.declared.facts.Facts.{Facts}
-use Rattle.body_values.specs.Bodies.{Body, place_of, where_reached, after_stmt}
+use Rattle.body_values.specs.Bodies.{Body, place_of}
 use Rattle.body_values.specs.Flow.{body_of, AreValues, value_or, values_at}
 
 -- of the function of this number

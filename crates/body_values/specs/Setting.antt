@@ -17,7 +17,6 @@ use Rattle.body_values.specs.declared.scene.Scene.{Scene}
 use Rattle.body_values.specs.Bodies.{Body}
 use Rattle.body_values.specs.Flow.{branches_of, equations_of}
 use Rattle.body_values.specs.PointRows.{block_rows}
-use Rattle.body_values.specs.Scenes.{body_in}
 use Rattle.body_values.specs.System.{FactsFit}
 
 -- the program has no type fault, its parts have numbers, the thresholds are its own, and the facts fit

@@ -11,6 +11,8 @@ mod flow;
 mod laws;
 mod point_rows;
 mod scene;
+#[cfg(test)]
+mod tests;
 mod transfer;
 mod values;
 

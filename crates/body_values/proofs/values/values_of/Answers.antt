@@ -1,4 +1,4 @@
-use Rattle.std.proofs.Common.{rules, ◌≡◌, Some, slice_get, sym, subst}
+use Rattle.std.proofs.Common.{◌≡◌, Some, slice_get, sym, subst}
 use Rattle.body_values.specs.Found.{AreFound}
 use Rattle.body_values.specs.Setting.{IsGiven}
 use Rattle.body_values.proofs.Settled.{numbered, given_by, found_in}
