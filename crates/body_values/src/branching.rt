@@ -57,7 +57,11 @@ fn labels(alloc: Global, end: &End) -> Result<Vec<u64>, OutOfMemory>
             yes,
             no,
         } => Ok(Vec::from_array(alloc, [*yes, *no])?),
-        End::Switch { on: _, cases, other } => switch_labels(alloc, cases.as_slice(), *other),
+        End::Switch {
+            on: _,
+            cases,
+            other,
+        } => switch_labels(alloc, cases.as_slice(), *other),
         End::Return(_) => Ok(Vec::new(alloc)),
     }
 }

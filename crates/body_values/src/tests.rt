@@ -135,14 +135,7 @@ fn count_program(alloc: Global) -> Result<Program, OutOfMemory>
 }
 
 /// Whether the counter is in exactly this interval at a point of `main`.
-fn ranges(
-    values: &BodyValues,
-    name: &Text,
-    block: u32,
-    index: u32,
-    low: i128,
-    high: i128,
-) -> bool {
+fn ranges(values: &BodyValues, name: &Text, block: u32, index: u32, low: i128, high: i128) -> bool {
     let point = Point {
         function: 0,
         block,
@@ -185,20 +178,24 @@ fn by_both(alloc: Global, program: Program) -> Result<(BodyValues, BodyValues), 
 
 fn counts_to_ten(alloc: Global, values: &BodyValues) -> Result<bool, OutOfMemory> {
     let name = counter(alloc)?;
-    Ok(ranges(values, &name, 0, 0, 0, 0)
-        && ranges(values, &name, 1, 0, 0, 10)
-        && ranges(values, &name, 2, 0, 0, 9)
-        && ranges(values, &name, 2, 1, 1, 10)
-        && ranges(values, &name, 3, 0, 10, 10))
+    Ok(
+        ranges(values, &name, 0, 0, 0, 0)
+            && ranges(values, &name, 1, 0, 0, 10)
+            && ranges(values, &name, 2, 0, 0, 9)
+            && ranges(values, &name, 2, 1, 1, 10)
+            && ranges(values, &name, 3, 0, 10, 10),
+    )
 }
 
 fn says_no_more(alloc: Global, values: &BodyValues) -> Result<bool, OutOfMemory> {
     let name = counter(alloc)?;
     let other = Text::from_bytes(alloc, b"j")?;
-    Ok(nowhere(values, &other, 0, 1, 0)
-        && nowhere(values, &name, 1, 1, 0)
-        && nowhere(values, &name, 0, 1, 1)
-        && nowhere(values, &name, 0, 4, 0))
+    Ok(
+        nowhere(values, &other, 0, 1, 0)
+            && nowhere(values, &name, 1, 1, 0)
+            && nowhere(values, &name, 0, 1, 1)
+            && nowhere(values, &name, 0, 4, 0),
+    )
 }
 
 #[test]

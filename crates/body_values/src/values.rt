@@ -74,7 +74,11 @@ impl BodyValues {
         if point.function != self.function {
             return None;
         }
-        value_at(&self.rows, point, place_of(self.registers.as_slice(), register))
+        value_at(
+            &self.rows,
+            point,
+            place_of(self.registers.as_slice(), register),
+        )
     }
 
     /// The number of the function.
