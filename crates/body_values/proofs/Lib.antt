@@ -14,3 +14,4 @@ pub mod BranchCounts
 pub mod Layouts
 pub mod Settled
 pub mod ExampleLaws
+pub mod FoundWhereLaws

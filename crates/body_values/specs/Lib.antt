@@ -12,3 +12,4 @@ pub mod PointRows
 pub mod Found
 pub mod Setting
 pub mod Examples
+pub mod FoundWhere

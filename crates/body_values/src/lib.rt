@@ -17,5 +17,5 @@ mod transfer;
 mod values;
 
 pub use facts::{AbsVals, Facts, LoadFact, LoadFacts};
-pub use laws::values_hold;
+pub use laws::{body_values_cross, values_found, values_hold};
 pub use values::{BodyValues, values_of};

@@ -1,0 +1,34 @@
+-- Where a value is found.
+use Rattle.std.specs.Prelude.{◌≡◌, ℕ, true, List, is_some}
+use Rattle.std.specs.List.{list_any}
+use Rattle.gimple_ir.specs.declared.point.Point.{Point}
+use Rattle.gimple_ir.specs.declared.program.Function.{Function}
+use Rattle.gimple_ir.specs.declared.program.Program.{Program}
+use Rattle.gimple_core.specs.Names.{same_name}
+use Rattle.fix_engine.specs.declared.lifted.Lifted.{Lifted}
+use Rattle.fix_engine.specs.declared.lifted.Lifted.TheVariants.{NotReached, Reached}
+use Rattle.value_domain.specs.declared.abs_val.AbsVal.{AbsVal}
+use Rattle.value_domain.specs.Thresholds.{Limits, IsLawful}
+use Rattle.body_values.specs.declared.facts.Facts.{Facts}
+use Rattle.body_values.specs.Found.{Found, AreFound, found_row, found_at}
+use Rattle.body_values.specs.System.{FactsFit}
+
+abbrev pub IsReached : Lifted (List AbsVal) → Type 0
+IsReached NotReached = ⊥
+IsReached (Reached row) = Unit {0}
+
+-- the point is one of the function and is reached, and the name is one of its registers
+pub record IsKnownAt (t : Found) (at : Point) (name : List ℕ) : Type 0 where
+  pub function : at.function ≡ t.function
+  pub reached : IsReached (found_row t.rows at.block at.index)
+  pub register : list_any (λ r. same_name r.name name) t.registers ≡ true
+
+-- there a value is found
+abbrev pub FoundThere : Type 0
+FoundThere = (p : Program) (n : ℕ) (f : Function) (facts : Facts) (limits : Limits) (t : Found) → IsLawful limits.ends → FactsFit f facts limits.size limits.ends → AreFound p n f facts limits t → (at : Point) (name : List ℕ) →
+    IsKnownAt t at name → is_some (found_at t at name) ≡ true
+
+-- and nowhere else
+abbrev pub FoundThereAlone : Type 0
+FoundThereAlone = (p : Program) (n : ℕ) (f : Function) (facts : Facts) (limits : Limits) (t : Found) → IsLawful limits.ends → FactsFit f facts limits.size limits.ends → AreFound p n f facts limits t → (at : Point) (name : List ℕ) →
+    is_some (found_at t at name) ≡ true → IsKnownAt t at name
