@@ -1,5 +1,5 @@
 -- Where a value is found.
-use Rattle.std.specs.Prelude.{◌≡◌, ℕ, true, List, is_some}
+use Rattle.std.specs.Prelude.{◌≡◌, ℕ, true, List, is_some, ◌==◌, ◌&&◌, Bool, false}
 use Rattle.std.specs.List.{list_any}
 use Rattle.gimple_ir.specs.declared.point.Point.{Point}
 use Rattle.gimple_ir.specs.declared.program.Function.{Function}
@@ -16,6 +16,14 @@ use Rattle.body_values.specs.System.{FactsFit}
 abbrev pub IsReached : Lifted (List AbsVal) → Type 0
 IsReached NotReached = ⊥
 IsReached (Reached row) = Unit {0}
+
+-- whether the point is one of the function and is reached
+abbrev pub is_reached : Lifted (List AbsVal) → Bool
+is_reached NotReached = false
+is_reached (Reached row) = true
+
+abbrev pub reached_at : Found → Point → Bool
+reached_at t at = (at.function == t.function) && is_reached (found_row t.rows at.block at.index)
 
 -- the point is one of the function and is reached, and the name is one of its registers
 pub record IsKnownAt (t : Found) (at : Point) (name : List ℕ) : Type 0 where

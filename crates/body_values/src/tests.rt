@@ -161,6 +161,21 @@ fn nowhere(values: &BodyValues, name: &Text, function: u32, block: u32, index: u
         .is_none()
 }
 
+/// Whether the points of a block of `main` are reached up to its end, and no further.
+fn ends_at(values: &BodyValues, block: u32, end: u32) -> bool {
+    let at = Point {
+        function: 0,
+        block,
+        index: end,
+    };
+    let past = Point {
+        function: 0,
+        block,
+        index: end.saturating_add(1),
+    };
+    values.reached(at) && !values.reached(past)
+}
+
 /// The values of the first function by each of the two solvers, from no facts.
 #[tactic(auto, using(crate::proofs::ExampleLaws::none_fit))]
 fn by_both(alloc: Global, program: Program) -> Result<(BodyValues, BodyValues), OutOfMemory>
@@ -206,5 +221,6 @@ fn values_of_a_loop(rt: HostRuntime) -> Result<(), Fail> {
     assert!(rt; counts_to_ten(alloc, &rounds)?);
     assert!(rt; counts_to_ten(alloc, &ordered)?);
     assert!(rt; says_no_more(alloc, &rounds)?);
+    assert!(rt; ends_at(&rounds, 0, 1) && ends_at(&rounds, 3, 0));
     Ok(())
 }

@@ -7,6 +7,7 @@ ghost use Rattle.value_domain.specs.Thresholds.{thresholds_list};
 ghost use Rattle.body_values.specs.Fitting.{file_by};
 ghost use Rattle.body_values.specs.Flow.{branches_of};
 ghost use Rattle.body_values.specs.Found.{OfFunction, AreFound, found_at, found_row, value_of};
+ghost use Rattle.body_values.specs.FoundWhere.{is_reached, reached_at};
 ghost use Rattle.body_values.specs.Ready.{Carried, AreFew};
 ghost use Rattle.body_values.specs.Scenes.{body_in};
 ghost use Rattle.body_values.specs.Setting.{IsGiven, IsSceneOf, AreBegins, AreRows};
@@ -65,6 +66,18 @@ fn value_at(rows: &Listed<PointRows>, point: Point, place: usize) -> Option<&Abs
     value_of(values, place)
 }
 
+fn reaches(rows: &Listed<PointRows>, point: Point) -> bool
+    ensures { result ≡ is_reached (found_row rows.now point.block point.index) }
+{
+    let Some(row) = rows.get(point.block as usize) else {
+        return false;
+    };
+    match row.get(point.index as usize) {
+        Some(Lifted::Reached(_)) => true,
+        _ => false,
+    }
+}
+
 impl BodyValues {
     /// The value of a register at a point of the function. None exactly where the point is not reached, or the name is no
     /// register of the function; a point that the function does not have is not reached.
@@ -79,6 +92,13 @@ impl BodyValues {
             point,
             place_of(self.registers.as_slice(), register),
         )
+    }
+
+    /// Whether a point of the function is reached.
+    pub fn reached(&self, point: Point) -> bool
+        ensures { result ≡ reached_at self.now point }
+    {
+        point.function == self.function && reaches(&self.rows, point)
     }
 
     /// The number of the function.
