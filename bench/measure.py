@@ -181,6 +181,17 @@ def solver(tool, counts):
             before = seconds
 
 
+def values(tool, counts):
+    """The operators on abstract values: one operator a round, on two values that stay the same."""
+    for kind in ("constants", "intervals", "any"):
+        before = 0
+        for count in counts:
+            seconds, peak, status = measured([tool, kind, str(count)])
+            assert status == 0, (kind, status)
+            row(f"{kind}, {count} rounds", count, "rounds/s", seconds, peak, before)
+            before = seconds
+
+
 def main():
     top, words = sys.argv[1], sys.argv[2:]
     quick = "--quick" in words
@@ -188,6 +199,7 @@ def main():
     optimiser = tools[0] if tools else os.path.join(top, "bin", "gimple-ipa")
     runner = tools[1] if len(tools) > 1 else os.path.join(top, "bin", "gimple-run")
     engine = tools[2] if len(tools) > 2 else os.path.join(top, "crates", "bench_engine", "out", "bench_engine")
+    operators = tools[3] if len(tools) > 3 else os.path.join(top, "crates", "bench_values", "out", "bench_values")
     print(f"{os.cpu_count()} processors")
     print(f"{'what':32} {'time':>10} {'speed':>25} {'peak':>11} growth")
     with tempfile.TemporaryDirectory() as folder:
@@ -197,6 +209,8 @@ def main():
             runs(runner, folder, (100000, 200000) if quick else (1000000, 2000000))
         if os.path.exists(engine):
             solver(engine, (5000, 10000) if quick else (25000, 50000, 100000))
+        if os.path.exists(operators):
+            values(operators, (1000000, 2000000) if quick else (10000000, 20000000))
 
 
 main()
