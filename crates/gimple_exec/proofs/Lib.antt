@@ -2,6 +2,7 @@ pub mod AssignedLemmas
 pub mod OrderLemmas
 pub mod SeekLemmas
 pub mod Naming
+pub mod CellLemmas
 pub mod TableLemmas
 pub mod MadeLemmas
 pub mod PlaceLemmas

@@ -1,5 +1,5 @@
 -- Names in a row, and the places of names.
-use Rattle.std.proofs.Common.{◌≡◌, sym, refl, ℕ, ◌+◌, ◌≤◌, Bool, true, false, not, cond, nat_lt, ◌==◌, List, [], ◌∷◌, map, length, Option, Some, None, Bor, arith}
+use Rattle.std.proofs.Common.{◌≡◌, ◌<◌, sym, refl, ℕ, ◌+◌, ◌≤◌, Bool, true, false, not, cond, nat_lt, ◌==◌, List, [], ◌∷◌, map, length, Option, Some, None, Bor, arith}
 use Rattle.std.specs.List.{position, position_or_len}
 use Rattle.std.specs.Str.{bytes_eq}
 use Rattle.std.proofs.lemmas.Bool.{ltb-false}
@@ -24,6 +24,12 @@ position_map f p q same xs = λ i. cond (nat_lt (place_or_len_map f p q same xs 
 missing : (b : Bool) (n : ℕ) → cond b (Some n) None ≡ None → b ≡ false
 missing true n h = cc
 missing false n h = refl
+
+-- where none passes, all places stand before the first that does
+pub place_past : {X : Type 0} (p : X → Bool) (xs : List X) → position p xs ≡ None → (k : ℕ) → k < length xs → k < position_or_len p xs
+place_past p xs e k l =
+    let high : length xs ≤ position_or_len p xs = ltb-false (position_or_len p xs) (length xs) (missing (nat_lt (position_or_len p xs) (length xs)) (position_or_len p xs) e) in
+    omega (arith, high)
 
 -- a place by `position`
 pub place_by : {X : Type 0} (p : X → Bool) (xs : List X) (r : Option ℕ) → r ≡ position p xs → IsPlace p xs r

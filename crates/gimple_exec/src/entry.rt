@@ -2,11 +2,12 @@
 
 ghost use Rattle.std.specs.Prelude.{◌≡◌, ◌<◌, ◌^◌, ◌++◌, [], length, IfOk, OnOk};
 ghost use Rattle.gimple_core.specs.Run.{cells_made, values_of};
+ghost use Rattle.gimple_exec.specs.Frames.{values_made};
 
 use crate::cells::Cells;
 use crate::memory::value_at;
 use crate::values;
-use gimple_core::{Cell, Decl, Exact, Function, Operand, OutOfMemory, Register, Value};
+use gimple_core::{Decl, Function, Operand, OutOfMemory, Register, Value};
 use std::alloc::Global as Heap;
 
 /// The values of a call's arguments.
@@ -15,7 +16,7 @@ pub fn arguments(
     globals: &[gimple_core::Global],
     locals: &[Decl],
     serial: u64,
-    cells: &Cells,
+    cells: &Cells<'_>,
     operands: &[Operand],
 ) -> Result<Vec<Value>, OutOfMemory>
     requires globals { length globals.now < 2 ^ 32 }
@@ -28,35 +29,39 @@ pub fn arguments(
         .collect(alloc)
 }
 
-/// Adds registers, the first ones with these values.
+/// Adds what registers hold at first, the first ones these values.
 fn add(
-    alloc: Heap,
-    cells: &mut Cells,
+    held: &mut Vec<Value>,
     registers: &[Register],
     values: &[Value],
 ) -> Result<(), OutOfMemory>
-    ensures { OnOk result (cells.new ≡ cells.old ++ cells_made registers.now values.now 0) }
+    ensures { OnOk result (held.new.items ≡ held.old.items ++ values_made registers.now values.now 0) }
 {
     for k in 0..registers.len() {
         let register = &registers[k];
         let value = value_at(values, k, register.scalar);
-        let name = register.name.copy()?;
-        let scalar = register.scalar;
-        cells.push(Cell {
-            name,
-            scalar,
-            value,
-        })?;
+        held.push(value)?;
     }
     Ok(())
 }
 
+fn held(alloc: Heap, function: &Function, values: &[Value]) -> Result<Vec<Value>, OutOfMemory>
+    ensures { IfOk result (λ vs. vs.items ≡ values_made function.now.params values.now 0 ++ values_made function.now.registers [] 0) }
+{
+    let mut held = Vec::new(alloc);
+    add(&mut held, function.params.as_slice(), values)?;
+    add(&mut held, function.registers.as_slice(), &[])?;
+    Ok(held)
+}
+
 /// The registers of a call that begins.
-pub fn registers(alloc: Heap, function: &Function, values: &[Value]) -> Result<Cells, OutOfMemory>
+pub fn registers<'a>(
+    alloc: Heap,
+    function: &'a Function,
+    values: &[Value],
+) -> Result<Cells<'a>, OutOfMemory>
     ensures { IfOk result (λ cells. cells ≡ cells_made function.now.params values.now 0 ++ cells_made function.now.registers [] 0) }
 {
-    let mut cells = Cells::new(alloc);
-    add(alloc, &mut cells, function.params.as_slice(), values)?;
-    add(alloc, &mut cells, function.registers.as_slice(), &[])?;
-    Ok(cells)
+    let held = held(alloc, function, values)?;
+    Ok(Cells::new(function, held))
 }

@@ -25,7 +25,7 @@ pub struct Indexed<'a> {
 
 impl<'a> Model for Indexed<'a> {
     ghost use Rattle.gimple_ir.specs.declared.program.Program.{Program};
-    ghost use Rattle.gimple_exec.specs.Tables.{IsIndexed};
+ghost use Rattle.gimple_exec.specs.Tables.{IsIndexed};
 
     ghost Value = { Program };
 
@@ -109,6 +109,13 @@ impl<'a> Indexed<'a> {
         })
     }
 
+    /// The program.
+    pub fn source(&self) -> &'a Program
+        ensures { result.now ≡ self.now }
+    {
+        self.program
+    }
+
     /// A function of the program.
     pub fn function_at(&self, k: usize) -> &'a Function
         requires { k < length self.now.functions }
@@ -142,7 +149,7 @@ impl<'a> Indexed<'a> {
     }
 
     /// The first function of a name.
-    pub fn named_place(&self, name: &'a Text) -> Option<usize>
+    pub fn named_place(&self, name: &Text) -> Option<usize>
         ensures { IsPlace (λ f. same_name f.name name.now) self.now.functions result }
     {
         self.functions.place(name.as_slice())

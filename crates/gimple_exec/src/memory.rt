@@ -8,11 +8,11 @@ ghost use Rattle.gimple_core.specs.Memory.{same_object, is_slot, found_at, found
 ghost use Rattle.gimple_core.specs.Run.{filled, item_value};
 
 use crate::extents::Extents;
-use crate::indexed::{Indexed, local_layouts};
+use crate::indexed::Indexed;
 use crate::slots::Slots;
 use crate::values;
 use gimple_core::{
-    Decl, Extent, FoundSlot, Layout, LayoutSlot, MemorySlot, Object, Operand, OutOfMemory, Program,
+    Extent, FoundSlot, Layout, LayoutSlot, MemorySlot, Object, Operand, OutOfMemory, Program,
     Scalar, TrapKind, Value, layout_of,
 };
 use std::alloc::Global as Heap;
@@ -197,22 +197,6 @@ impl Memory {
         Ok(())
     }
 
-    /// Adds the locals of a frame.
-    pub fn add_locals(
-        &mut self,
-        alloc: Heap,
-        program: &Program,
-        locals: &[Decl],
-        serial: u64,
-    ) -> Result<(), OutOfMemory>
-        requires few { length locals.now < 2 ^ 32 }
-        requires layouts { All (λ d. HasLayout program.now.structs d) locals.now }
-        ensures { OnOk result (self.new ≡ with_locals program.now.structs serial 0 locals.now self.old) }
-    {
-        let layouts = local_layouts(alloc, program, locals)?;
-        self.add_layouts(layouts.as_slice(), serial)
-    }
-
     /// Adds the locals of a function's frame.
     pub fn add_frame(
         &mut self,
@@ -228,7 +212,14 @@ impl Memory {
     }
 
     /// Adds the globals of a program.
-    pub fn add_globals(
+    pub fn add_program(&mut self, alloc: Heap, program: &Indexed<'_>) -> Result<(), OutOfMemory>
+        requires { IsLimited program.now }
+        ensures { OnOk result (self.new ≡ with_globals program.now.structs program.now.globals 0 program.now.globals self.old) }
+    {
+        self.add_globals(alloc, program.source(), program.globals())
+    }
+
+    fn add_globals(
         &mut self,
         alloc: Heap,
         program: &Program,

@@ -68,7 +68,7 @@ impl<'a> Names<'a> {
     }
 
     /// The place of the first name that is this one.
-    pub fn place(&self, name: &'a [u8]) -> Option<usize>
+    pub fn place(&self, name: &[u8]) -> Option<usize>
         ensures { result ≡ position (λ n. same_name n name.now) self.now }
     {
         if self.distinct && self.names.len() > FEW {

@@ -260,7 +260,7 @@ pub fn operand(
     globals: &[gimple_core::Global],
     locals: &[Decl],
     serial: u64,
-    cells: &Cells,
+    cells: &Cells<'_>,
     from: &Operand,
 ) -> Value
     requires globals { length globals.now < 2 ^ 32 }
@@ -283,7 +283,7 @@ pub fn pointer(
     globals: &[gimple_core::Global],
     locals: &[Decl],
     serial: u64,
-    cells: &Cells,
+    cells: &Cells<'_>,
     place: &Place,
 ) -> Value
     requires globals { length globals.now < 2 ^ 32 }

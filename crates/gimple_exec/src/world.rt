@@ -16,8 +16,8 @@ use std::alloc::Global as Heap;
 
 /// What a statement that is no call can change.
 #[derive(Drop)]
-pub struct World {
-    pub cells: Cells,
+pub struct World<'a> {
+    pub cells: Cells<'a>,
     pub memory: Memory,
     pub input: Listed<i64>,
     pub taken: usize,
@@ -36,7 +36,7 @@ pub fn number_text(alloc: Heap, number: i128) -> Result<String, OutOfMemory>
     }
 }
 
-impl World {
+impl<'a> World<'a> {
     fn assign_result(&mut self, to: &Text, found: Result<Value, TrapKind>) -> Option<TrapKind>
         ensures { Acts self.old result (assign_result (world_of self.old) to.now found) self.new }
     {
