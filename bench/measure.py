@@ -170,25 +170,14 @@ def runs(tool, folder, turns):
             before = seconds
 
 
-def solver(tool, counts):
-    """The solver in order on graphs through which truth flows; the program prints how often a value flowed."""
-    for shape in ("chain", "reversed", "random"):
-        before = 0
-        for count in counts:
-            seconds, peak, status = measured([tool, shape, str(count)])
-            assert status == 0, (shape, status)
-            row(f"{shape}, {count} nodes", count, "nodes/s", seconds, peak, before)
-            before = seconds
-
-
-def values(tool, counts):
-    """The operators on abstract values: one operator a round, on two values that stay the same."""
-    for kind in ("constants", "intervals", "any"):
+def growing(tool, kinds, counts, what):
+    """A program that takes a kind and a count, for each kind and with the count growing."""
+    for kind in kinds:
         before = 0
         for count in counts:
             seconds, peak, status = measured([tool, kind, str(count)])
             assert status == 0, (kind, status)
-            row(f"{kind}, {count} rounds", count, "rounds/s", seconds, peak, before)
+            row(f"{kind}, {count} {what}", count, f"{what}/s", seconds, peak, before)
             before = seconds
 
 
@@ -208,9 +197,11 @@ def main():
         if os.path.exists(runner):
             runs(runner, folder, (100000, 200000) if quick else (1000000, 2000000))
         if os.path.exists(engine):
-            solver(engine, (5000, 10000) if quick else (25000, 50000, 100000))
+            counts = (5000, 10000) if quick else (25000, 50000, 100000)
+            growing(engine, ("chain", "reversed", "random"), counts, "nodes")
         if os.path.exists(operators):
-            values(operators, (1000000, 2000000) if quick else (10000000, 20000000))
+            counts = (1000000, 2000000) if quick else (10000000, 20000000)
+            growing(operators, ("constants", "intervals", "any"), counts, "rounds")
 
 
 main()
