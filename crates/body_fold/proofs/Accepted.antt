@@ -36,7 +36,7 @@ use Rattle.body_fold.specs.Fold.{Folding, stmt_at, end_at, new_stmt, new_end, Is
 use Rattle.body_fold.specs.Claims.{replaced, folding_of, FoldIsAccepted}
 use Rattle.body_fold.proofs.Names.{Parts, parts, function_at}
 use Rattle.body_fold.proofs.Relabelled.{relabelled, statement_re, heads_of, SameHeads, statement_heads, own_same, function_same}
-use Rattle.body_fold.proofs.Sees.{sees, blocks_pass}
+use Rattle.gimple_claims.proofs.Checked.{sees, blocks_pass}
 use Rattle.body_fold.proofs.Passing.{stmt_passes, end_passes, LabelsPass, ending_listed, ending_re}
 use Rattle.body_fold.proofs.Labels.{labelled, block_listed, labels_kept}
 

@@ -5,7 +5,6 @@ pub mod Points
 pub mod Names
 pub mod Running
 pub mod Relabelled
-pub mod Sees
 pub mod Passing
 pub mod Labels
 pub mod Accepted

@@ -47,7 +47,7 @@ use Rattle.body_values.specs.Rising.{LoadsFit}
 use Rattle.body_values.specs.System.{loads_fit}
 use Rattle.body_values.specs.Claims.{given_of, InEachRun}
 use Rattle.body_values.proofs.Held.{RowHolds}
-use Rattle.body_values.proofs.OneRun.{each_before}
+use Rattle.gimple_claims.proofs.OneRun.{each_before}
 use Rattle.body_values.proofs.Points.{F, sol, is_at}
 use Rattle.body_values.proofs.Solved.{to_option, reached_is, carried_is}
 use Rattle.body_fold.specs.Fold.{Folding, known_result, evaluated, never_traps, constant_operand, folded_arguments, formals_of, with_operands, folded_stmt, folded_end, new_stmt, new_end, stmt_at, end_at, IsLinked, first, linked}

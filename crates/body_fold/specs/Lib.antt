@@ -1,2 +1,3 @@
 pub mod Fold
+pub mod Folders
 pub mod Claims

@@ -23,7 +23,7 @@ use Rattle.body_values.specs.Bodies.{after_body}
 use Rattle.body_values.specs.Flow.{body_of, body_at, value_or, values_at}
 use Rattle.body_values.specs.Claims.{FileHolds, given_of, ValuesClaim, PointsHold, Analysed, ValuesHold, ValuesHoldAlways}
 use Rattle.body_values.proofs.Solved.{to_option, reached_is, carried_is}
-use Rattle.body_values.proofs.OneRun.{each_before, in_run}
+use Rattle.gimple_claims.proofs.OneRun.{each_before, in_run}
 use Rattle.body_values.proofs.Points.{F, sol, is_at}
 
 same_body : (o : Option Block) → body_at o ≡ statements_of o

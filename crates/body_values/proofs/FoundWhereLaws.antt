@@ -44,7 +44,8 @@ module _ (p : Program) (n : ℕ) (f : Function) (facts : Facts) (limits : Limits
       (body_rises (body_of p n f facts limits.size limits.ends) law loads k 0 (take i (body_at (slice_get f.blocks k))) (value_or (slice_get found.begins k)) (value_or (slice_get found.begins k))
       (file_self (body_of p n f facts limits.size limits.ends) law loads (value_or (slice_get found.begins k)) begin)).upper
 
-  row_fits : (k i : ℕ) → Fits (found_row t.rows k i)
+  -- so do those at each point
+  pub row_fits : (k i : ℕ) → Fits (found_row t.rows k i)
   row_fits k i = subst Fits (sym (found.points k i)) (cond_fits Fits (is_index (slice_get f.blocks k) i) (values_at (body_of p n f facts limits.size limits.ends) f.blocks found.begins k i) (λ h. values_fit k i (within f.blocks k i h)) tt)
 
 -- ---- registers by name

@@ -5,7 +5,6 @@ pub mod Taken
 pub mod Items
 pub mod Solved
 pub mod Points
-pub mod OneRun
 pub mod Always
 pub mod Written
 pub mod Refined

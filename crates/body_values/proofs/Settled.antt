@@ -35,7 +35,7 @@ use Rattle.body_values.specs.Found.{OfFunction, Found, AreFound, found_row, is_i
 use Rattle.body_values.specs.PointRows.{rows_from, block_rows}
 use Rattle.body_values.specs.Ready.{loads_by, Carried, AreFew}
 use Rattle.body_values.specs.Scenes.{body_in, FitsIn}
-use Rattle.body_values.specs.Setting.{IsGiven, IsSceneOf, AreBegins, AreRows}
+use Rattle.body_values.specs.Setting.{IsGiven, IsSceneOf, AreBegins, AreRows, WereFound}
 use Rattle.body_values.specs.System.{FactsFit, entry_fits}
 use Rattle.body_values.proofs.Flowing.{fits_in}
 use Rattle.body_values.proofs.Layouts.{global_layout}
@@ -226,3 +226,13 @@ pub found_in : (p : Program) (n : ℕ) (f : Function) (facts : Facts) (most : �
 found_in p n f facts most limits t e m ts h =
     let same : limits ≡ record { size = most; ends = thresholds_list p } = λ i. record { size = m i; ends = ts i } in
     to_function (λ f. AreFound p n f facts (record { size = most; ends = thresholds_list p }) t) (slice_get p.functions n) f e (subst (λ l. AreFound p n f facts l t) same h)
+
+pub were_found : (p : Program) (n : ℕ) (f : Function) (facts : Facts) (limits : Limits) (t : Found) → slice_get p.functions n ≡ Some f → IsGiven p f facts limits → AreFound p n f facts limits t → WereFound p n t
+were_found p n f facts limits t e given h = record {
+  function = f;
+  own = e;
+  facts = facts;
+  fit = subst (λ (l : Limits). FactsFit f facts l.size l.ends) (sym h.made_with) given.fit;
+  ends = ap (λ (l : Limits). l.ends) h.made_with ∙ given.ends;
+  are = subst (λ (l : Limits). AreFound p n f facts l t) (sym h.made_with) h;
+}

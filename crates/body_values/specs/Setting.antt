@@ -1,5 +1,5 @@
 -- What the values of a function are made from.
-use Rattle.std.specs.Prelude.{◌≡◌, ℕ, ◌<◌, ◌^◌, List, ◌∷◌, ◌++◌, length}
+use Rattle.std.specs.Prelude.{◌≡◌, ℕ, ◌<◌, ◌^◌, List, ◌∷◌, ◌++◌, length, Some, slice_get}
 use Rattle.gimple_ir.specs.declared.block.Block.{Block}
 use Rattle.gimple_ir.specs.declared.program.Function.{Function}
 use Rattle.gimple_ir.specs.declared.program.Program.{Program}
@@ -16,6 +16,7 @@ use Rattle.body_values.specs.declared.facts.Facts.{Facts}
 use Rattle.body_values.specs.declared.scene.Scene.{Scene}
 use Rattle.body_values.specs.Bodies.{Body}
 use Rattle.body_values.specs.Flow.{branches_of, equations_of}
+use Rattle.body_values.specs.Found.{Found, AreFound}
 use Rattle.body_values.specs.PointRows.{block_rows}
 use Rattle.body_values.specs.System.{FactsFit}
 
@@ -46,3 +47,12 @@ pub record AreRows (B : Body) (blocks : List Block) (entry : Lifted (List AbsVal
   pub begins : List (Lifted (List AbsVal))
   pub least : AreBegins B blocks entry begins
   pub are : rows ≡ block_rows B 0 blocks begins
+
+-- these are the values of the function of this number, from some facts that fit
+pub record WereFound (p : Program) (n : ℕ) (t : Found) : Type 0 where
+  pub function : Function
+  pub own : slice_get p.functions n ≡ Some function
+  pub facts : Facts
+  pub fit : FactsFit function facts t.limits.size t.limits.ends
+  pub ends : t.limits.ends ≡ thresholds_list p
+  pub are : AreFound p n function facts t.limits t

@@ -86,7 +86,8 @@ fn same_scalar(left: Scalar, right: Scalar) -> bool
 }
 
 #[tactic(auto, using(crate::proofs::Written::slot_is, crate::proofs::Written::slot_below))]
-fn is_slot(slot: &LayoutSlot, place: &Place, scalar: Scalar) -> bool
+/// Whether a slot is the one of a place, for a scalar.
+pub fn is_slot(slot: &LayoutSlot, place: &Place, scalar: Scalar) -> bool
     ensures { result ≡ is_slot_at place.now.offset scalar slot.now }
 {
     if place.offset < 0 {
@@ -212,7 +213,7 @@ impl<'a> Scene<'a> {
 
     /// What a register of a scalar gets from a statement.
     #[tactic(auto, unfolding(crate::specs::Bodies::result_value))]
-    fn result(
+    pub fn result(
         &self,
         block: u32,
         index: u32,

@@ -16,6 +16,10 @@ mod tests;
 mod transfer;
 mod values;
 
+pub use branches::Branch;
+pub use branching::branches_of;
+pub use changes::{is_slot, target};
 pub use facts::{AbsVals, Facts, LoadFact, LoadFacts};
 pub use laws::{body_values_cross, values_found, values_hold};
+pub use scene::{Scene, global_number, is_local_name, offset_of, pointer, scalar_of};
 pub use values::{BodyValues, values_of};

@@ -6,11 +6,11 @@ ghost use Rattle.gimple_core.specs.Size.{size_of_program};
 ghost use Rattle.value_domain.specs.Thresholds.{thresholds_list};
 ghost use Rattle.body_values.specs.Fitting.{file_by};
 ghost use Rattle.body_values.specs.Flow.{branches_of};
-ghost use Rattle.body_values.specs.Found.{OfFunction, AreFound, found_at, found_row, value_of};
+ghost use Rattle.body_values.specs.Found.{OfFunction, AreFound, found_at, found_row, row_of, value_of};
 ghost use Rattle.body_values.specs.FoundWhere.{is_reached, reached_at};
 ghost use Rattle.body_values.specs.Ready.{Carried, AreFew};
 ghost use Rattle.body_values.specs.Scenes.{body_in};
-ghost use Rattle.body_values.specs.Setting.{IsGiven, IsSceneOf, AreBegins, AreRows};
+ghost use Rattle.body_values.specs.Setting.{IsGiven, IsSceneOf, AreBegins, AreRows, WereFound};
 ghost use Rattle.body_values.specs.System.{FactsFit};
 
 use crate::branching::branches_of;
@@ -66,6 +66,18 @@ fn value_at(rows: &Listed<PointRows>, point: Point, place: usize) -> Option<&Abs
     value_of(values, place)
 }
 
+fn row_at(rows: &Listed<PointRows>, block: u32, index: u32) -> Option<&[AbsVal]>
+    ensures { option_copied result ≡ row_of (found_row rows.now block index) }
+{
+    let Some(rows) = rows.get(block as usize) else {
+        return None;
+    };
+    match rows.get(index as usize) {
+        Some(Lifted::Reached(row)) => Some(row.as_slice()),
+        _ => None,
+    }
+}
+
 fn reaches(rows: &Listed<PointRows>, point: Point) -> bool
     ensures { result ≡ is_reached (found_row rows.now point.block point.index) }
 {
@@ -99,6 +111,21 @@ impl BodyValues {
         ensures { result ≡ reached_at self.now point }
     {
         point.function == self.function && reaches(&self.rows, point)
+    }
+
+    /// The values of all registers at a point of the function, the formals first, by the numbers of its block and of the
+    /// index there. None exactly where the point is not reached.
+    pub fn row(&self, block: u32, index: u32) -> Option<&[AbsVal]>
+        ensures { option_copied result ≡ row_of (found_row self.now.rows block index) }
+    {
+        row_at(&self.rows, block, index)
+    }
+
+    /// The registers of the function, the formals first.
+    pub fn registers(&self) -> &[Register]
+        ensures { result.now ≡ self.now.registers }
+    {
+        self.registers.as_slice()
     }
 
     /// The number of the function.
@@ -227,7 +254,8 @@ pub fn values_of<S: Solver>(
     requires size { size_of_program program.now.program < 2 ^ 32 }
     requires branches { OfFunction program.now.program function (λ f. length (branches_of f.blocks) < 2 ^ 32) }
     requires facts { OfFunction program.now.program function (λ f. FactsFit f facts.now limits.now.ipa_cp_value_list_size (thresholds_list program.now.program)) }
-    ensures { IfOk result (λ v. OfFunction program.now.program function (λ f. AreFound program.now.program function f facts.now (record { size = limits.now.ipa_cp_value_list_size; ends = thresholds_list program.now.program }) v)) }
+    ensures values { IfOk result (λ v. OfFunction program.now.program function (λ f. AreFound program.now.program function f facts.now (record { size = limits.now.ipa_cp_value_list_size; ends = thresholds_list program.now.program }) v)) }
+    ensures found { IfOk result (WereFound program.now.program function) }
 {
     let thresholds = thresholds_of(alloc, program, limits)?;
     let program = program.program();

@@ -66,11 +66,11 @@ locals_made env out names (x ∷ xs) h =
     locals_made p.0 out names xs p.2 ∙ ((λ i. record (q i) { locals = (q i).locals ++ decls_by_name xs })
     ∙ (λ i. record env { locals = append_assoc env.locals ((x.name, x) ∷ []) (decls_by_name xs) i }))
 
-record Sees (known : Env) (f : Function) (env : Env) : Type 0 where
-  some : d.has_blocks f.blocks ≡ true
-  same : env ≡ record known { locals = decls_by_name f.locals; registers = registers_by_name f.params ++ registers_by_name f.registers; labels = map (λ b. b.label) f.blocks; result = f.result }
+pub record Sees (known : Env) (f : Function) (env : Env) : Type 0 where
+  pub some : d.has_blocks f.blocks ≡ true
+  pub same : env ≡ record known { locals = decls_by_name f.locals; registers = registers_by_name f.params ++ registers_by_name f.registers; labels = map (λ b. b.label) f.blocks; result = f.result }
 
-sees : (known env : Env) (names : Names Function) (f : Function) → d.own known names f ≡ Ok env → Sees known f env
+pub sees : (known env : Env) (names : Names Function) (f : Function) → d.own known names f ≡ Ok env → Sees known f env
 unfolding d.own
 sees known env names f h =
     let first : Env = record known { locals = []; registers = []; labels = []; result = f.result } in
@@ -119,7 +119,7 @@ body_passes env names index number (x ∷ xs) h =
     let p = first_passed (at _ (s.statement env names x)) _ tt h in
     (at_passed _ (s.statement env names x) tt p.1, body_passes env names index (number + 1) xs p.2)
 
-blocks_pass : (env : Env) (names : Names Function) (index number : ℕ) (bs : List Block) → s.blocks env names index number bs ≡ Ok tt → BlocksPass env names bs
+pub blocks_pass : (env : Env) (names : Names Function) (index number : ℕ) (bs : List Block) → s.blocks env names index number bs ≡ Ok tt → BlocksPass env names bs
 unfolding s.blocks
 blocks_pass env names index number [] h = tt
 blocks_pass env names index number (b ∷ bs) h =

@@ -77,7 +77,7 @@ same_told_of : (made : Bool) (a : Event) (es fs : List Event) → fs ≡ [] → 
 same_told_of true a es fs e = refl
 same_told_of false a es fs e = rw e refl
 
-same_told : (p : Program) (made : Bool) (xs : List Stmt) (s t : State) → stepped p s xs ≡ Goes t → told_by p made xs s ≡ told_by p true xs s
+pub same_told : (p : Program) (made : Bool) (xs : List Stmt) (s t : State) → stepped p s xs ≡ Goes t → told_by p made xs s ≡ told_by p true xs s
 unfolding told_by
 same_told p made xs s t e = same_told_of made _ _ _ (ap (crossing p.globals xs s) e)
 
@@ -129,7 +129,7 @@ each_event p input Q all (suc n) past s c =
     (each_on p input Q _ (walk p s.top.rest s) (events p n) (w.next refl) (λ t d. each_event p input Q all n _ t d))
 
 -- a claim of main's entry and of what each state tells holds in the run
-in_run_of : (p : Program) (input : List ℤ) (Q : List Event → Event → Type 0) → AtEach p input Q → (n : ℕ) (o : Option State) → start p input ≡ o → ((s : State) → o ≡ Some s → Q [] (main_entry p s)) → EachAfter Q [] (events_from p n o)
+pub in_run_of : (p : Program) (input : List ℤ) (Q : List Event → Event → Type 0) → AtEach p input Q → (n : ℕ) (o : Option State) → start p input ≡ o → ((s : State) → o ≡ Some s → Q [] (main_entry p s)) → EachAfter Q [] (events_from p n o)
 in_run_of p input Q all n None e first = tt
 in_run_of p input Q all n (Some s) e first = (first s refl, each_event p input Q all n _ s (begins s e))
 

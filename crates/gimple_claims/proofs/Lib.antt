@@ -1,4 +1,5 @@
 pub mod Comes
+pub mod OneRun
 pub mod Accesses
 pub mod Steps
 pub mod Stack

@@ -1,0 +1,44 @@
+-- What the code has of a function that is folded.
+use Rattle.std.specs.Prelude.{◌≡◌, ℕ, List, ◌++◌, None, Some, slice_get}
+use Rattle.gimple_ir.specs.declared.program.Function.{Function}
+use Rattle.gimple_ir.specs.declared.program.Program.{Program}
+use Rattle.gimple_core.specs.Env.{functions_by_name}
+use Rattle.gimple_claims.specs.Checks.{env_of}
+use Rattle.value_domain.specs.Thresholds.{Limits}
+use Rattle.body_values.specs.Bodies.{Body}
+use Rattle.body_values.specs.Found.{Found, found_row}
+use Rattle.body_values.specs.Scenes.{body_in, IsReady}
+use Rattle.body_fold.specs.declared.folder.Folder.{Folder}
+use Rattle.body_fold.specs.Fold.{Folding, IsFolded}
+
+abbrev pub folding_in : Folder → Folding
+folding_in s = record { env = env_of s.scene.program.now s.function.now; names = functions_by_name s.scene.program.now.functions; body = body_in s.scene }
+
+-- the scene is that of the function, and the program's globals have numbers and layouts
+pub record IsFolder (s : Folder) : Type 0 where
+  pub locals : s.scene.locals.now ≡ s.function.now.locals
+  pub registers : s.scene.registers.now ≡ s.function.now.params ++ s.function.now.registers
+  pub ready : IsReady s.scene
+
+-- ---- a function and its values
+
+-- the body of a function, of whose loads nothing is given: a load is never folded
+abbrev pub body_by : Program → Function → Limits → Body
+body_by p f limits = record {
+  structs = p.structs;
+  globals = p.globals;
+  locals = f.locals;
+  registers = f.params ++ f.registers;
+  most = limits.size;
+  ends = limits.ends;
+  loads = λ k i. None;
+}
+
+abbrev pub folding_by : Program → Function → Limits → Folding
+folding_by p f limits = record { env = env_of p f; names = functions_by_name p.functions; body = body_by p f limits }
+
+-- This is the function of this number, with the constants put in that are known by these values of its registers.
+pub record IsFoldOf (p : Program) (n : ℕ) (t : Found) (g : Function) : Type 0 where
+  pub function : Function
+  pub own : slice_get p.functions n ≡ Some function
+  pub folded : IsFolded (folding_by p function t.limits) (λ k i. found_row t.rows k i) function g
