@@ -2,7 +2,7 @@
 use Rattle.std.proofs.Common.{◌≡◌, ℕ, zero, suc, ◌<◌, ◌≤◌, ◌+◌, ◌⊎◌, inl, inr, Bool, true, false, List, [], ◌∷◌, ◌++◌, length, set, get_or, refl, sym, ◌∙◌, ap, arith}
 use Rattle.std.specs.List.{Contains}
 use Rattle.std.proofs.lemmas.Bool.{cases_Bool}
-use Rattle.call_graph.proofs.Walking.{marked_inside, walk_start, walk_done, step_kept, step_falls}
+use Rattle.graph_walk.proofs.Walking.{marked_inside, walk_start, walk_done, step_kept, step_falls}
 use Rattle.call_graph.specs.Walk.{met, unmarked, IsWalk}
 use Rattle.call_graph.specs.Graph.{Leads, start, along, AreMarks, IsReady}
 

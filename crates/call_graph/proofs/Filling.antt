@@ -1,10 +1,11 @@
 -- A target added to its source's row.
 use Rattle.std.proofs.Common.{◌≡◌, ℕ, ◌+◌, ◌<◌, inl, inr, Bool, List, [], ◌∷◌, ◌++◌, length, set, get_or, drop, refl, sym, ◌∙◌, ap, subst, arith, Vec}
 use Rattle.std.specs.declared.alloc.Global.{Global}
-use Rattle.std.proofs.lemmas.List.{get_or-set_same, get_or-set_other, get_or-map, get_or_append_left, get_or_at, map-append, map-set, length-map, drop_more}
+use Rattle.std.proofs.lemmas.List.{get_or-set_same, get_or-set_other, map-set, length-map, drop_more}
 use Rattle.std.proofs.lemmas.Bool.Decides.{eqb_tells}
 use Rattle.gimple_ir.specs.declared.point.Edge.{Edge}
 use Rattle.call_graph.specs.Walk.{listed, row_at}
+pub use Rattle.graph_walk.proofs.WalkRows.{row_is, listed_length, row_before, row_last}
 use Rattle.call_graph.specs.Calls.{callees_in, with_callee}
 
 pub add_here : (r rest : List ℕ) (t : ℕ) → (r ++ t ∷ []) ++ rest ≡ r ++ t ∷ rest
@@ -33,26 +34,7 @@ rows_step rows news es i d inside low is a =
     let Q : List Edge → Type 0 = λ xs. row_at news a ++ callees_in (drop (i + 1) es) a ≡ row_at rows a ++ callees_in xs a in
     subst Q (sym (drop_more es i d inside)) (subst P (sym is) (row_added (listed rows) e (drop (i + 1) es) a fits))
 
-pub row_is : (rows : List (Vec ℕ Global)) (i : ℕ) (v : Vec ℕ Global) → i < length rows → v ≡ get_or rows i v → v.items ≡ row_at rows i
-row_is rows i v low is =
-    let items = λ (x : Vec ℕ Global). x.items in
-    ap items is ∙ sym (get_or-map items rows i v [] low)
-
 pub row_pushed : (rows : List (Vec ℕ Global)) (i t : ℕ) (old new : Vec ℕ Global) → i < length rows → old ≡ get_or rows i old → new.items ≡ old.items ++ t ∷ [] → listed (set rows i new) ≡ set (listed rows) i (row_at rows i ++ t ∷ [])
 row_pushed rows i t old new low is more =
     let items = λ (x : Vec ℕ Global). x.items in
     map-set items rows i new ∙ ap (λ (r : List ℕ). set (listed rows) i r) (more ∙ ap (λ (r : List ℕ). r ++ t ∷ []) (row_is rows i old low is))
-
-pub listed_length : (rows : List (Vec ℕ Global)) → length (listed rows) ≡ length rows
-listed_length rows = length-map rows (λ v. v.items)
-
--- the rows after one more
-pub row_before : (rows : List (Vec ℕ Global)) (v : Vec ℕ Global) (b : ℕ) → b < length rows → row_at (rows ++ v ∷ []) b ≡ row_at rows b
-row_before rows v b low =
-    ap (λ (xs : List (List ℕ)). get_or xs b []) (map-append (λ (x : Vec ℕ Global). x.items) rows (v ∷ []))
-    ∙ get_or_append_left (listed rows) (v.items ∷ []) [] b (omega (arith, low, listed_length rows))
-
-pub row_last : (rows : List (Vec ℕ Global)) (v : Vec ℕ Global) → row_at (rows ++ v ∷ []) (length rows) ≡ v.items
-row_last rows v =
-    ap (λ (xs : List (List ℕ)). get_or xs (length rows) []) (map-append (λ (x : Vec ℕ Global). x.items) rows (v ∷ []))
-    ∙ get_or_at (listed rows) v.items [] [] (length rows) (listed_length rows)

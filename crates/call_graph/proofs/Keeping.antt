@@ -11,7 +11,7 @@ use Rattle.call_graph.specs.Reached.{AreReached}
 use Rattle.call_graph.proofs.Bridge.{reached_leads, leads_inside, name_of}
 use Rattle.call_graph.proofs.Callees.{slice_get_at}
 use Rattle.call_graph.proofs.Naming.{name_at, number_at}
-use Rattle.call_graph.proofs.Walking.{marked_inside}
+use Rattle.graph_walk.proofs.Walking.{marked_inside}
 use Rattle.call_graph.specs.Reached.{marked, unless_dropped}
 
 none_left : (marks : List Bool) (fs : List Function) → (length fs ≡ 0) ⊎ (length marks ≡ 0) → marked marks fs ≡ []

@@ -2,7 +2,6 @@ pub mod Members
 pub mod Naming
 pub mod Sizes
 pub mod Calling
-pub mod Walking
 pub mod Filling
 pub mod Bridge
 pub mod Callees

@@ -2,9 +2,7 @@
 use Rattle.std.proofs.Common.{◌≡◌, ℕ, ◌⊎◌, inl, inr, List, [], ◌∷◌, arith}
 use Rattle.std.specs.List.{Contains}
 use Rattle.std.proofs.lemmas.List.Elements.{Contains-append_cases, Contains-append_left, Contains-append_right, Contains-push, Contains-push_cases}
-
-pub nothing : (a : ℕ) → Contains [] a → ⊥
-nothing a (k, low, _) = omega (arith, low)
+pub use Rattle.graph_walk.proofs.Walking.{nothing}
 
 pub contains_cases : (x : ℕ) (xs : List ℕ) (y : ℕ) → Contains (x ∷ xs) y → (x ≡ y) ⊎ Contains xs y
 contains_cases x xs y h = elim (Contains-append_cases (x ∷ []) xs y h) [

@@ -16,7 +16,7 @@ use Rattle.call_graph.specs.Walk.{row_at, unmarked}
 use Rattle.call_graph.proofs.Members.{nothing}
 use Rattle.call_graph.proofs.Choosing.{all_stand, marks_found}
 use Rattle.call_graph.proofs.Firsting.{leads_inside, mutual_then, mutual_back}
-use Rattle.call_graph.proofs.Walking.{marked_inside, unmarked_set}
+use Rattle.graph_walk.proofs.Walking.{marked_inside, unmarked_set}
 use Rattle.call_graph.proofs.Edging.{edge_of, are_between}
 
 none_after : {X : Type 0} (xs : List X) → xs ++ [] ≡ xs

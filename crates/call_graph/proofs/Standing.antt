@@ -8,7 +8,7 @@ use Rattle.std.proofs.lemmas.Bool.Decides.{eqb_tells}
 use Rattle.call_graph.specs.Walk.{unmarked}
 use Rattle.call_graph.proofs.Filling.{add_here}
 use Rattle.call_graph.proofs.Members.{nothing, contains_cases, here, later}
-use Rattle.call_graph.proofs.Walking.{unmarked_set}
+use Rattle.graph_walk.proofs.Walking.{unmarked_set}
 
 -- the marks say which nodes stand
 pub record SayStanding (n : ℕ) (standing : List ℕ) (marks : List Bool) : Type 0 where

@@ -6,8 +6,8 @@ ghost use Rattle.call_graph.specs.Calls.{callees_in};
 ghost use Rattle.call_graph.specs.Walk.{listed, row_at};
 
 use crate::rows::{add_to, empty_rows, rows_of};
-use crate::walk::reached_in;
 use gimple_core::{Edge, OutOfMemory};
+use graph_walk::reached_in;
 use std::alloc::Global as Heap;
 
 /// The first node of the component of each of so many nodes.

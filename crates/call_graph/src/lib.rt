@@ -10,7 +10,6 @@ mod reach;
 mod rows;
 #[cfg(test)]
 mod tests;
-mod walk;
 
 pub use calls::edges;
 pub use gimple_core::{Edge, Edges, Marks, Numbers};

@@ -9,9 +9,9 @@ ghost use Rattle.call_graph.specs.Walk.{listed, row_at};
 
 use crate::firsts::{all_first, edges_between};
 use crate::rows::{add_to, empty_rows, rows_of};
-use crate::walk::all_false;
 use fix_engine::MarkTree;
 use gimple_core::{Edge, OutOfMemory};
+use graph_walk::all_false;
 use std::alloc::Global as Heap;
 use std::mem;
 

@@ -8,8 +8,8 @@ ghost use Rattle.call_graph.specs.Reached.{AreReached, marked, unless_dropped};
 
 use crate::names::main_number;
 use crate::rows::callees;
-use crate::walk::reached_in;
 use gimple_core::{Checked, Function, Listed, Marks, OutOfMemory, Program};
+use graph_walk::reached_in;
 use std::alloc::Global as Heap;
 
 /// For each function in file order, whether `main` reaches it by calls, in any block.

@@ -1,5 +1,5 @@
 use Rattle.std.proofs.Common.{◌≡◌, ℕ, false, length, slice_index_or}
-use Rattle.call_graph.proofs.walk.all_false.Given as goal
+use Rattle.graph_walk.proofs.walk.all_false.Given as goal
 
 abbrev pub invariant-loop-at : goal.invariant-loop-at
 invariant-loop-at l = record {

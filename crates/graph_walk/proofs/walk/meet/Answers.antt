@@ -1,6 +1,6 @@
 use Rattle.std.proofs.Common.{slice_index_or, arith}
 use Rattle.std.proofs.lemmas.List.Elements.{Contains-get_or}
-use Rattle.call_graph.proofs.walk.meet.Goals as goal
+use Rattle.graph_walk.proofs.walk.meet.Goals as goal
 
 pub meet_one-requires : goal.meet_one-requires
 meet_one-requires c =

@@ -1,6 +1,6 @@
 use Rattle.std.proofs.Common.{◌+◌, length}
-use Rattle.call_graph.specs.Walk.{row_at, IsWalk, unmarked}
-use Rattle.call_graph.proofs.walk.reached_in.Given as goal
+use Rattle.graph_walk.specs.Walk.{row_at, IsWalk, unmarked}
+use Rattle.graph_walk.proofs.walk.reached_in.Given as goal
 
 abbrev pub invariant-loop-node : goal.invariant-loop-node
 invariant-loop-node l = IsWalk (row_at l.rows) (length l.rows) l.root (record { marks = l.marks.items; pending = l.pending.items })

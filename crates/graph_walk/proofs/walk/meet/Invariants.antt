@@ -1,6 +1,6 @@
 use Rattle.std.proofs.Common.{◌≡◌, drop, length}
-use Rattle.call_graph.specs.Walk.{met}
-use Rattle.call_graph.proofs.walk.meet.Given as goal
+use Rattle.graph_walk.specs.Walk.{met}
+use Rattle.graph_walk.proofs.walk.meet.Given as goal
 
 abbrev pub invariant-loop-node : goal.invariant-loop-node
 invariant-loop-node l = record {

@@ -1,9 +1,9 @@
 use Rattle.std.proofs.Common.{rules, ◌≡◌, ℕ, true, List, [], ◌∷◌, ◌++◌, length, set, sym, ◌∙◌, subst, arith}
 use Rattle.std.specs.List.{Contains}
-use Rattle.call_graph.specs.Walk.{row_at, IsWalk}
-use Rattle.call_graph.proofs.Walking.{walk_start, walk_done, pending_inside, step_kept, step_falls}
-use Rattle.call_graph.proofs.Filling.{row_is}
-use Rattle.call_graph.proofs.walk.reached_in.Goals as goal
+use Rattle.graph_walk.specs.Walk.{row_at, IsWalk}
+use Rattle.graph_walk.proofs.Walking.{walk_start, walk_done, pending_inside, step_kept, step_falls}
+use Rattle.graph_walk.proofs.WalkRows.{row_is}
+use Rattle.graph_walk.proofs.walk.reached_in.Goals as goal
 
 pub loop-node-init : goal.loop-node-init
 loop-node-init c =

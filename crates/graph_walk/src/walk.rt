@@ -1,15 +1,16 @@
-//! What a function reaches along edges.
+//! What a node reaches along edges.
 
 ghost use Rattle.std.specs.Prelude.{◌≡◌, ℕ, ◌<◌, ◌^◌, false, [], ◌∷◌, length, slice_index_or, IfOk, OnOk};
 ghost use Rattle.std.specs.List.{Contains};
-ghost use Rattle.call_graph.specs.Graph.{AreMarks};
-ghost use Rattle.call_graph.specs.Walk.{Walk, met, row_at};
+ghost use Rattle.graph_walk.specs.Graph.{AreMarks};
+ghost use Rattle.graph_walk.specs.Walk.{Walk, met, row_at};
 
-use gimple_core::OutOfMemory;
-use std::alloc::Global as Heap;
+use std::alloc::{AllocError, Global as Heap};
 
-/// What the root reaches along the edges of the rows. Each edge is followed once.
-pub fn reached_in(alloc: Heap, rows: &[Vec<u32>], root: usize) -> Result<Vec<bool>, OutOfMemory>
+/// What the root reaches along the edges of the rows, one row of targets a node. Each edge is followed once.
+///
+/// Err is want of memory.
+pub fn reached_in(alloc: Heap, rows: &[Vec<u32>], root: usize) -> Result<Vec<bool>, AllocError>
     requires root { root < length rows.now }
     requires root_small { root < 2 ^ 32 }
     requires ends { (a b : ℕ) → Contains (row_at rows.now a) b → b < length rows.now }
@@ -26,7 +27,7 @@ pub fn reached_in(alloc: Heap, rows: &[Vec<u32>], root: usize) -> Result<Vec<boo
 }
 
 /// Marks what is not marked yet, and keeps it for later.
-fn meet(row: &[u32], marks: &mut Vec<bool>, pending: &mut Vec<u32>) -> Result<(), OutOfMemory>
+fn meet(row: &[u32], marks: &mut Vec<bool>, pending: &mut Vec<u32>) -> Result<(), AllocError>
     requires { (b : ℕ) → Contains row.now b → b < length marks.old.items }
     ensures { OnOk result (record { marks = marks.new.items; pending = pending.new.items } ≡ met row.now (record { marks = marks.old.items; pending = pending.old.items })) }
 {
@@ -36,7 +37,7 @@ fn meet(row: &[u32], marks: &mut Vec<bool>, pending: &mut Vec<u32>) -> Result<()
     Ok(())
 }
 
-fn meet_one(node: u32, marks: &mut Vec<bool>, pending: &mut Vec<u32>) -> Result<(), OutOfMemory>
+fn meet_one(node: u32, marks: &mut Vec<bool>, pending: &mut Vec<u32>) -> Result<(), AllocError>
     requires { node < length marks.old.items }
     ensures { OnOk result (record { marks = marks.new.items; pending = pending.new.items } ≡ met (node ∷ []) (record { marks = marks.old.items; pending = pending.old.items })) }
 {
@@ -48,7 +49,10 @@ fn meet_one(node: u32, marks: &mut Vec<bool>, pending: &mut Vec<u32>) -> Result<
     Ok(())
 }
 
-pub fn all_false(alloc: Heap, count: usize) -> Result<Vec<bool>, OutOfMemory>
+/// So many marks, none of which is set.
+///
+/// Err is want of memory.
+pub fn all_false(alloc: Heap, count: usize) -> Result<Vec<bool>, AllocError>
     ensures each { IfOk result (λ v. (a : ℕ) → slice_index_or v.items a false ≡ false) }
     ensures one_each { IfOk result (λ v. length v.items ≡ count) }
 {

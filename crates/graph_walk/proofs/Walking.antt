@@ -5,9 +5,11 @@ use Rattle.std.proofs.lemmas.List.{get_or-set_same, get_or-set_other, length-app
 use Rattle.std.proofs.lemmas.List.Elements.{Contains-append_cases, Contains-append_left, Contains-append_right, Contains-push, Contains-push_cases}
 use Rattle.std.proofs.lemmas.Bool.Decides.{eqb_tells}
 use Rattle.std.proofs.Math.ListN.{length-set}
-use Rattle.call_graph.proofs.Members.{nothing}
-use Rattle.call_graph.specs.Graph.{Leads, start, along, AreMarks}
-use Rattle.call_graph.specs.Walk.{Walk, unless_met, met, unmarked, IsWalk}
+use Rattle.graph_walk.specs.Graph.{Leads, start, along, AreMarks}
+use Rattle.graph_walk.specs.Walk.{Walk, unless_met, met, unmarked, IsWalk}
+
+pub nothing : (a : ℕ) → Contains [] a → ⊥
+nothing a (k, low, _) = omega (arith, low)
 
 pub unmarked_set : (xs : List Bool) (m : ℕ) → m < length xs → get_or xs m false ≡ false → suc (unmarked (set xs m true)) ≡ unmarked xs
 unmarked_set [] m h e = let no : ⊥ = omega (arith, h) in elim no [ ]
