@@ -52,7 +52,8 @@ use Rattle.body_values.proofs.Held.{typed_is, same_test, RowHolds}
 use Rattle.body_values.proofs.Operands.{from_begin, local_free}
 use Rattle.body_values.proofs.Stmts.{register, operand, good, arith_holds, sides_hold}
 use Rattle.body_fold.specs.Fold.{value_of_constant, constant_operand, global_constant, known_register, known_operand, result_constant, one_known, both_known, compared_constant, evaluated, never_traps, known_result, known_comparison, constant_for, place_from, place_on}
-use Rattle.body_fold.proofs.Constants.{constant_is, OffsetFits, offset_fits, NamesMean, constant_value, from_value, first_by}
+use Rattle.body_fold.specs.Folders.{NamesMean}
+use Rattle.body_fold.proofs.ConstantValues.{constant_is, OffsetFits, offset_fits, constant_value, from_value, first_by}
 
 not_true : (b : Bool) → not b ≡ true → b ≡ false
 not_true true h = cc

@@ -1,6 +1,6 @@
-pub mod Constants
+pub mod ConstantValues
 pub mod Known
-pub mod Statements
+pub mod Acting
 pub mod Points
 pub mod Names
 pub mod Running

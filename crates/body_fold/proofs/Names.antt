@@ -21,7 +21,7 @@ use Rattle.gimple_core.proofs.EnvLemmas.{same_test, has_append, declared_new}
 use Rattle.gimple_core.proofs.KeptAccepted.{heads_are}
 use Rattle.gimple_claims.proofs.Checked.{ok_same, globals_made}
 use Rattle.body_values.specs.Bodies.{is_local, global_place}
-use Rattle.body_fold.proofs.Constants.{NamesMean}
+use Rattle.body_fold.specs.Folders.{NamesMean}
 
 -- ---- the globals have names of their own
 

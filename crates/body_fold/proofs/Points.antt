@@ -52,8 +52,8 @@ use Rattle.body_values.proofs.Points.{F, sol, is_at}
 use Rattle.body_values.proofs.Solved.{to_option, reached_is, carried_is}
 use Rattle.body_fold.specs.Fold.{Folding, known_result, evaluated, never_traps, constant_operand, folded_arguments, formals_of, with_operands, folded_stmt, folded_end, new_stmt, new_end, stmt_at, end_at, IsLinked, first, linked}
 use Rattle.body_fold.specs.Claims.{folding_of, Folds}
-use Rattle.body_fold.proofs.Constants.{NamesMean}
-use Rattle.body_fold.proofs.Statements.{exit_at, exit_is, stmt_acts, arguments_put, end_leads}
+use Rattle.body_fold.specs.Folders.{NamesMean}
+use Rattle.body_fold.proofs.Acting.{exit_at, exit_is, stmt_acts, arguments_put, end_leads}
 
 -- ---- labels that an end leads to
 

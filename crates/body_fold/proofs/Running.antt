@@ -27,8 +27,8 @@ use Rattle.body_values.specs.declared.facts.Facts.{Facts}
 use Rattle.body_values.specs.Claims.{given_of, InEachRun}
 use Rattle.body_fold.specs.Fold.{new_stmt, new_end, first}
 use Rattle.body_fold.specs.Claims.{replaced, Folds, FoldKeepsRun}
-use Rattle.body_fold.proofs.Constants.{NamesMean}
-use Rattle.body_fold.proofs.Statements.{exit_is}
+use Rattle.body_fold.specs.Folders.{NamesMean}
+use Rattle.body_fold.proofs.Acting.{exit_is}
 use Rattle.body_fold.proofs.Names.{names_mean}
 use Rattle.body_fold.proofs.Points.{S, values, stmt_here, call_here, end_here, jump_kept}
 

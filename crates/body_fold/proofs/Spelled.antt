@@ -44,7 +44,7 @@ use Rattle.body_values.specs.Bodies.{target_of}
 use Rattle.body_values.specs.Flow.{body_of, values_at}
 use Rattle.body_fold.specs.Fold.{Folding, value_of_constant, address_in, constant_operand, known_register, known_operand, known_comparison, constant_for, passes, is_put, folded_operand, folded_left, folded_right, right_check, formals_of, folded_arguments, place_in, place_from, place_on, folded_place, stored_place, with_operands, copy_or, with_result, folded_stmt, is_zero, goto_or, case_or, folded_end, stmt_at, end_at, new_stmt, new_end}
 use Rattle.body_fold.specs.Claims.{replaced, folding_of, Folds, FoldHasText}
-use Rattle.body_fold.proofs.Constants.{put_has}
+use Rattle.body_fold.proofs.ConstantValues.{put_has}
 
 -- ---- numbers of scalars
 

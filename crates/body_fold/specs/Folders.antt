@@ -1,11 +1,13 @@
 -- What the code has of a function that is folded.
-use Rattle.std.specs.Prelude.{◌≡◌, ℕ, List, ◌++◌, None, Some, slice_get}
+use Rattle.std.specs.Prelude.{◌≡◌, ℕ, false, List, ◌++◌, None, Some, slice_get}
+use Rattle.gimple_ir.specs.declared.declarations.Decl.{Decl}
+use Rattle.gimple_ir.specs.declared.declarations.Global.{Global}
 use Rattle.gimple_ir.specs.declared.program.Function.{Function}
 use Rattle.gimple_ir.specs.declared.program.Program.{Program}
 use Rattle.gimple_core.specs.Env.{functions_by_name}
 use Rattle.gimple_claims.specs.Checks.{env_of}
 use Rattle.value_domain.specs.Thresholds.{Limits}
-use Rattle.body_values.specs.Bodies.{Body}
+use Rattle.body_values.specs.Bodies.{Body, is_local, global_place}
 use Rattle.body_values.specs.Found.{Found, found_row}
 use Rattle.body_values.specs.Scenes.{body_in, IsReady}
 use Rattle.body_fold.specs.declared.folder.Folder.{Folder}
@@ -14,11 +16,20 @@ use Rattle.body_fold.specs.Fold.{Folding, IsFolded}
 abbrev pub folding_in : Folder → Folding
 folding_in s = record { env = env_of s.scene.program.now s.function.now; names = functions_by_name s.scene.program.now.functions; body = body_in s.scene }
 
--- the scene is that of the function, and the program's globals have numbers and layouts
+-- the name of a global means it in a function
+pub record Means (globals : List Global) (locals : List Decl) (k : ℕ) (g : Global) : Type 0 where
+  pub free : is_local locals g.decl.name ≡ false
+  pub place : global_place globals g.decl.name ≡ Some k
+
+abbrev pub NamesMean : List Global → List Decl → Type 0
+NamesMean globals locals = (k : ℕ) (g : Global) → slice_get globals k ≡ Some g → Means globals locals k g
+
+-- the scene is that of the function, the program's globals have numbers and layouts, and their names mean them
 pub record IsFolder (s : Folder) : Type 0 where
   pub locals : s.scene.locals.now ≡ s.function.now.locals
   pub registers : s.scene.registers.now ≡ s.function.now.params ++ s.function.now.registers
   pub ready : IsReady s.scene
+  pub mean : NamesMean s.scene.program.now.globals s.function.now.locals
 
 -- ---- a function and its values
 

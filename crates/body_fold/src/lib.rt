@@ -3,10 +3,10 @@
 
 mod constants;
 mod ends;
-mod fold;
 mod folder;
+mod folding;
 mod laws;
 mod statements;
 
-pub use fold::fold;
+pub use folding::fold;
 pub use laws::{folding_keeps_acceptance, folding_keeps_runs};
