@@ -11,3 +11,4 @@ pub mod Accepted
 pub mod Spelled
 pub mod Rows
 pub mod RowMain
+pub mod Goods

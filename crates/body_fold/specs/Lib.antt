@@ -1,3 +1,4 @@
 pub mod Fold
 pub mod Folders
 pub mod Claims
+pub mod Evaluation

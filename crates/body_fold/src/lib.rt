@@ -3,6 +3,7 @@
 
 mod constants;
 mod ends;
+mod evaluation;
 mod folder;
 mod folding;
 mod laws;
