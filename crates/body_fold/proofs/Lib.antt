@@ -6,6 +6,7 @@ pub mod Names
 pub mod Running
 pub mod Relabelled
 pub mod Passing
+pub mod Checking
 pub mod Labels
 pub mod Accepted
 pub mod Spelled

@@ -1,12 +1,14 @@
 //! The known constants of a function put into its body.
 #![tactic(auto)]
 
+mod checks;
 mod constants;
 mod ends;
 mod evaluation;
 mod folder;
 mod folding;
 mod laws;
+mod operands;
 mod statements;
 
 pub use folding::fold;
