@@ -33,7 +33,8 @@ use Rattle.value_domain.specs.declared.abs_val.AbsVal.{AbsVal}
 use Rattle.body_values.specs.declared.facts.Facts.{Facts}
 use Rattle.body_values.specs.Flow.{body_of, values_at}
 use Rattle.body_fold.specs.Fold.{Folding, stmt_at, end_at, new_stmt, new_end, IsLinked, first, linked}
-use Rattle.body_fold.specs.Claims.{replaced, folding_of, FoldIsAccepted}
+use Rattle.body_fold.specs.Claims.{replaced, FoldIsAccepted}
+use Rattle.body_fold.proofs.FoldsBy.{folding_of, FoldsBy, folds_by}
 use Rattle.body_fold.proofs.Names.{Parts, parts, function_at}
 use Rattle.body_fold.proofs.Relabelled.{relabelled, statement_re, heads_of, SameHeads, statement_heads, own_same, function_same}
 use Rattle.gimple_claims.proofs.Checked.{sees, blocks_pass}
@@ -274,9 +275,9 @@ module _ (p : Program) (n : ℕ) (f : Function) (facts : Facts) (most : ℕ) (ts
 
 -- ---- the whole program
 
-pub fold_is_accepted : FoldIsAccepted
+accepted_by : (p : Program) (n : ℕ) (f : Function) (facts : Facts) (most : ℕ) (ts : List ℤ) (xs : List (Lifted (List AbsVal))) (g : Function) → FoldsBy p n f facts most ts xs g → first_fault (replaced p n g) ≡ None
 unfolding first_fault checked
-fold_is_accepted p n f facts most ts xs g folds =
+accepted_by p n f facts most ts xs g folds =
     let a : Parts p = parts p folds.values.accepted in
     let known : Env = known_env p.structs (globals_by_name p.globals) in
     let gs : List Function = slice_set p.functions n g in
@@ -294,3 +295,6 @@ fold_is_accepted p n f facts most ts xs g folds =
     (both_pass (d.heads (globals_by_name p.globals) 0 [] gs) _ (functions_by_name gs) tt (table.1 ∙ ap Ok table_is)
     (both_pass (d.main 0 gs) _ tt tt (main_alike 0 p.functions gs alike ∙ a.main)
     (functions_set known (functions_by_name gs) (functions_by_name p.functions) 0 p.functions n f g heads folds.own a.functions folded)))))
+
+pub fold_is_accepted : FoldIsAccepted
+fold_is_accepted p n f facts t g folds = accepted_by p n f facts t.limits.size t.limits.ends folds.values.begins g (folds_by p n f facts t g folds)

@@ -43,7 +43,7 @@ use Rattle.body_values.specs.Rising.{LoadsFit}
 use Rattle.body_values.proofs.Held.{RowHolds}
 use Rattle.body_values.proofs.Stmts.{register}
 use Rattle.body_fold.specs.Fold.{Folding, value_of_constant, constant_operand, known_operand, evaluated, never_traps, known_result, known_comparison, constant_for, passes, is_put, folded_operand, folded_left, folded_right, right_check, folded_arguments, place_on, folded_place, stored_place, with_operands, copy_or, with_result, folded_stmt, is_zero, goto_or, case_or, folded_end}
-use Rattle.body_fold.specs.Claims.{folding_of}
+use Rattle.body_fold.proofs.FoldsBy.{folding_of}
 use Rattle.body_fold.specs.Folders.{NamesMean}
 use Rattle.body_fold.proofs.ConstantValues.{OffsetFits, constant_value, put_has}
 use Rattle.body_fold.proofs.Known.{IsNamed, operand_named, printed_named, integer_named, sides_named, for_same, operand_known, comparison_known, arith_sides, arith_known, copy_known, compare_result_known, convert_known, place_same}

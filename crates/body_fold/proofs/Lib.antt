@@ -1,4 +1,5 @@
 pub mod ConstantValues
+pub mod FoldsBy
 pub mod Known
 pub mod Acting
 pub mod Points
@@ -13,3 +14,6 @@ pub mod Spelled
 pub mod Rows
 pub mod RowMain
 pub mod Goods
+pub mod AtPoints
+pub mod Linking
+pub mod Foldable

@@ -51,7 +51,7 @@ use Rattle.gimple_claims.proofs.OneRun.{each_before}
 use Rattle.body_values.proofs.Points.{F, sol, is_at}
 use Rattle.body_values.proofs.Solved.{to_option, reached_is, carried_is}
 use Rattle.body_fold.specs.Fold.{Folding, known_result, evaluated, never_traps, constant_operand, folded_arguments, formals_of, with_operands, folded_stmt, folded_end, new_stmt, new_end, stmt_at, end_at, IsLinked, first, linked}
-use Rattle.body_fold.specs.Claims.{folding_of, Folds}
+use Rattle.body_fold.proofs.FoldsBy.{folding_of, FoldsBy}
 use Rattle.body_fold.specs.Folders.{NamesMean}
 use Rattle.body_fold.proofs.Acting.{exit_at, exit_is, stmt_acts, arguments_put, end_leads}
 
@@ -119,7 +119,7 @@ unfolding folded_stmt with_operands known_result evaluated never_traps constant_
 call_folded S j i row None callee xs = refl
 call_folded S j i row (Some to) callee xs = refl
 
-module _ (p : Program) (n : ℕ) (f : Function) (facts : Facts) (most : ℕ) (ts : List ℤ) (xs : List (Lifted (List AbsVal))) (g : Function) (folds : Folds p n f facts most ts xs g) (all : InEachRun p (FactsClaim f (given_of n f facts)))
+module _ (p : Program) (n : ℕ) (f : Function) (facts : Facts) (most : ℕ) (ts : List ℤ) (xs : List (Lifted (List AbsVal))) (g : Function) (folds : FoldsBy p n f facts most ts xs g) (all : InEachRun p (FactsClaim f (given_of n f facts)))
     (mean : NamesMean p.globals f.locals) (input : List ℤ) (numbers : list_all (in_scalar I64) input ≡ true) where
   abbrev pub S : Folding
   S = folding_of p n f facts most ts

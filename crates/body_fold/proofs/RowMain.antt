@@ -26,7 +26,7 @@ use Rattle.body_values.specs.declared.facts.Facts.{Facts}
 use Rattle.body_values.specs.Bodies.{operand_value, arith_value, result_value, after_stmt}
 use Rattle.body_values.specs.Flow.{body_of, entry_row, labels_of, values_at}
 use Rattle.body_fold.specs.Fold.{Folding, known_register, known_operand, constant_operand, constant_for, evaluated, never_traps, known_result, with_operands, folded_stmt, folded_end, end_at, new_end, IsLinked, first, linked, IsFolded}
-use Rattle.body_fold.specs.Claims.{folding_of}
+use Rattle.body_fold.proofs.FoldsBy.{folding_of}
 
 abbrev register : ℕ → Scalar → Register
 register letter scalar = record { name = letter ∷ []; scalar = scalar }

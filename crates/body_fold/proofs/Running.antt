@@ -26,7 +26,8 @@ use Rattle.value_domain.specs.declared.abs_val.AbsVal.{AbsVal}
 use Rattle.body_values.specs.declared.facts.Facts.{Facts}
 use Rattle.body_values.specs.Claims.{given_of, InEachRun}
 use Rattle.body_fold.specs.Fold.{new_stmt, new_end, first}
-use Rattle.body_fold.specs.Claims.{replaced, Folds, FoldKeepsRun}
+use Rattle.body_fold.specs.Claims.{replaced, FoldKeepsRun}
+use Rattle.body_fold.proofs.FoldsBy.{FoldsBy, folds_by}
 use Rattle.body_fold.specs.Folders.{NamesMean}
 use Rattle.body_fold.proofs.Acting.{exit_is}
 use Rattle.body_fold.proofs.Names.{names_mean}
@@ -85,7 +86,7 @@ abbrev function_or : Function → Option Function → Function
 function_or f None = f
 function_or f (Some h) = h
 
-module _ (p : Program) (n : ℕ) (f : Function) (facts : Facts) (most : ℕ) (ts : List ℤ) (xs : List (Lifted (List AbsVal))) (g : Function) (folds : Folds p n f facts most ts xs g) (all : InEachRun p (FactsClaim f (given_of n f facts)))
+module _ (p : Program) (n : ℕ) (f : Function) (facts : Facts) (most : ℕ) (ts : List ℤ) (xs : List (Lifted (List AbsVal))) (g : Function) (folds : FoldsBy p n f facts most ts xs g) (all : InEachRun p (FactsClaim f (given_of n f facts)))
     (mean : NamesMean p.globals f.locals) (input : List ℤ) (numbers : list_all (in_scalar I64) input ≡ true) where
   abbrev put : ℕ → ℕ → Stmt → Stmt
   put k i x = new_stmt (S p n f facts most ts xs g folds all mean input numbers) (values p n f facts most ts xs g folds all mean input numbers) k i x
@@ -244,4 +245,5 @@ module _ (p : Program) (n : ℕ) (f : Function) (facts : Facts) (most : ℕ) (ts
   run_same turns = instances_run I Fits p gs input specialises turns
 
 pub fold_keeps_run : FoldKeepsRun
-fold_keeps_run p n f facts most ts xs g folds all input numbers turns = run_same p n f facts most ts xs g folds all (names_mean p n f folds.values.accepted folds.own) input numbers turns
+fold_keeps_run p n f facts t g folds all input numbers turns =
+    run_same p n f facts t.limits.size t.limits.ends folds.values.begins g (folds_by p n f facts t g folds) all (names_mean p n f folds.accepted folds.own) input numbers turns

@@ -43,7 +43,8 @@ use Rattle.body_values.specs.declared.facts.Facts.{Facts}
 use Rattle.body_values.specs.Bodies.{target_of}
 use Rattle.body_values.specs.Flow.{body_of, values_at}
 use Rattle.body_fold.specs.Fold.{Folding, value_of_constant, address_in, constant_operand, known_register, known_operand, known_comparison, constant_for, passes, is_put, folded_operand, folded_left, folded_right, right_check, formals_of, folded_arguments, place_in, place_from, place_on, folded_place, stored_place, with_operands, copy_or, with_result, folded_stmt, is_zero, goto_or, case_or, folded_end, stmt_at, end_at, new_stmt, new_end}
-use Rattle.body_fold.specs.Claims.{replaced, folding_of, Folds, FoldHasText}
+use Rattle.body_fold.specs.Claims.{replaced, FoldHasText}
+use Rattle.body_fold.proofs.FoldsBy.{folding_of, FoldsBy, folds_by}
 use Rattle.body_fold.proofs.ConstantValues.{put_has}
 
 -- ---- numbers of scalars
@@ -312,7 +313,7 @@ module _ (S : Folding) (values : ℕ → ℕ → Lifted (List AbsVal)) (all : Li
 
 -- ---- the program
 
-folded_spelled : (p : Program) (n : ℕ) (f : Function) (facts : Facts) (most : ℕ) (ts : List ℤ) (xs : List (Lifted (List AbsVal))) (g : Function) → Folds p n f facts most ts xs g → IsSpellable p → IsSpellable (replaced p n g)
+folded_spelled : (p : Program) (n : ℕ) (f : Function) (facts : Facts) (most : ℕ) (ts : List ℤ) (xs : List (Lifted (List AbsVal))) (g : Function) → FoldsBy p n f facts most ts xs g → IsSpellable p → IsSpellable (replaced p n g)
 folded_spelled p n f facts most ts xs g folds h =
     let old : IsSpellableFunction f = all_at IsSpellableFunction p.functions n f h.functions folds.own in
     let new : IsSpellableFunction g = subst IsSpellableFunction (sym folds.folded.is) (record {
@@ -325,4 +326,5 @@ folded_spelled p n f facts most ts xs g folds h =
     record { structs = h.structs; globals = h.globals; functions = all_set IsSpellableFunction p.functions n g h.functions new }
 
 pub fold_has_text : FoldHasText
-fold_has_text p n f facts most ts xs g folds text = (spellable_has_text (replaced p n g)).0 (folded_spelled p n f facts most ts xs g folds ((spellable_has_text p).1 text))
+fold_has_text p n f facts t g folds text =
+    (spellable_has_text (replaced p n g)).0 (folded_spelled p n f facts t.limits.size t.limits.ends folds.values.begins g (folds_by p n f facts t g folds) ((spellable_has_text p).1 text))

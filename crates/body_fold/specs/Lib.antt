@@ -1,4 +1,7 @@
 pub mod Fold
 pub mod Folders
+pub mod Blocks
+pub mod Links
+pub mod Settings
 pub mod Claims
 pub mod Evaluation

@@ -1,13 +1,97 @@
 //! A function with its known constants put in.
 
-ghost use Rattle.std.specs.Prelude.{◌<◌, ◌^◌, length, IfOk};
+ghost use Rattle.std.specs.Prelude.{◌≡◌, ◌++◌, ◌<◌, ◌^◌, [], length, IfOk, OnOk};
 ghost use Rattle.gimple_core.specs.Size.{size_of_program};
 ghost use Rattle.body_values.specs.Setting.{WereFound};
 ghost use Rattle.body_fold.specs.Folders.{IsFoldOf};
+ghost use Rattle.body_fold.specs.Links.{unless_dropped, marked_blocks};
+ghost use Rattle.body_fold.specs.Settings.{IsFolderOf, IsFoldable};
 
-use body_values::BodyValues;
-use gimple_core::{Checked, Function, OutOfMemory};
-use std::alloc::{AllocError, Global};
+use crate::folder::Folder;
+use crate::links::linked;
+use body_values::{BodyValues, Scene};
+use gimple_core::{Block, Checked, Exact, Function, Listed, OutOfMemory, Program};
+use std::alloc::Global;
+
+fn folder_of<'a>(
+    alloc: Global,
+    program: &'a Program,
+    number: u32,
+    function: &'a Function,
+    values: &'a BodyValues,
+) -> Folder<'a>
+    ensures { IsFolderOf result program.now function.now values.now }
+{
+    Folder {
+        scene: Scene {
+            program,
+            locals: function.locals.as_slice(),
+            registers: values.registers(),
+            loads: &[],
+            number,
+            limits: values.limits(),
+            alloc,
+        },
+        function,
+    }
+}
+
+fn push_if(kept: &mut Vec<Block>, is: bool, block: Block) -> Result<(), OutOfMemory>
+    ensures { OnOk result (kept.new.items ≡ kept.old.items ++ unless_dropped is block []) }
+{
+    if is {
+        kept.push(block)?;
+    }
+    Ok(())
+}
+
+/// The blocks that are marked, in their order.
+#[tactic(auto, unfolding(crate::specs::Links::marked_blocks))]
+fn keep_marked(alloc: Global, blocks: Vec<Block>, marks: &[bool]) -> Result<Vec<Block>, OutOfMemory>
+    ensures { IfOk result (λ kept. kept.items ≡ marked_blocks marks.now blocks.items) }
+{
+    let mut kept = Vec::new(alloc);
+    for (block, mark) in blocks.into_iter().zip(marks) {
+        push_if(&mut kept, *mark, block)?;
+    }
+    Ok(kept)
+}
+
+/// A copy of a function with other blocks.
+fn with_blocks(function: &Function, blocks: Vec<Block>) -> Result<Function, OutOfMemory>
+    ensures { IfOk result (λ g. g ≡ record function.now { blocks = blocks.items }) }
+{
+    let name = function.name.copy()?;
+    let params = function.params.copy()?;
+    let locals = function.locals.copy()?;
+    let registers = function.registers.copy()?;
+    Ok(Function {
+        name,
+        params,
+        result: function.result,
+        locals,
+        registers,
+        blocks: Listed::from_vec(blocks),
+    })
+}
+
+fn fold_function(
+    alloc: Global,
+    program: &Program,
+    number: u32,
+    function: &Function,
+    values: &BodyValues,
+) -> Result<Function, OutOfMemory>
+    requires { IsFoldable program.now number function.now values.now }
+    ensures { IfOk result (IsFoldOf program.now number values.now) }
+{
+    let folder = folder_of(alloc, program, number, function, values);
+    let all = folder.blocks(values)?;
+    let marks = linked(alloc, all.as_slice())?;
+    let kept = keep_marked(alloc, all, marks.as_slice())?;
+    let folded = with_blocks(function, kept)?;
+    Ok(folded)
+}
 
 /// The function of a number with the constants put in that are known by the values of its registers: known results and
 /// operands become numbers, null or addresses of globals, known branches become jumps, and the blocks to which no path leads
@@ -26,5 +110,8 @@ pub fn fold(
     requires values { WereFound program.now.program function values.now }
     ensures { IfOk result (IsFoldOf program.now.program function values.now) }
 {
-    Err(AllocError)
+    let program = program.program();
+    let of = &program.functions.as_slice()[function as usize];
+    let folded = fold_function(alloc, program, function, of, values)?;
+    Ok(folded)
 }

@@ -1,6 +1,7 @@
 //! The known constants of a function put into its body.
 #![tactic(auto)]
 
+mod blocks;
 mod checks;
 mod constants;
 mod ends;
@@ -8,6 +9,7 @@ mod evaluation;
 mod folder;
 mod folding;
 mod laws;
+mod links;
 mod operands;
 mod statements;
 
