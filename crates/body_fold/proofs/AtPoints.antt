@@ -1,5 +1,5 @@
 -- What the code has of a point, and blocks one after the other.
-use Rattle.std.proofs.Common.{◌≡◌, ℕ, zero, suc, ◌+◌, ◌<◌, true, List, [], ◌∷◌, ◌++◌, length, append_assoc, drop, get_or, refl, sym, ◌∙◌, ap, subst, arith, Some, None, Ok, slice_get}
+use Rattle.std.proofs.Common.{◌≡◌, ℕ, zero, suc, ◌+◌, ◌<◌, true, List, [], ◌∷◌, ◌++◌, length, append_assoc, drop, get_or, refl, sym, ◌∙◌, ap, subst, arith, Some, None, Result, Ok, IfOk, slice_get}
 use Rattle.std.proofs.lemmas.List.{drop_more}
 use Rattle.std.proofs.lemmas.Option.{slice_get_read}
 use Rattle.gimple_ir.specs.declared.statement.Stmt.{Stmt}
@@ -48,6 +48,10 @@ module _ (s : Folder) (t : Found) where
   pub end_stays : (k i : ℕ) (e : End) → length (body_at (slice_get s.function.now.blocks k)) ≡ i → None ≡ row_of (found_row t.rows k i) → e ≡ end_in s t k e
   unfolding end_in
   end_stays k i e there h = ap (end_at (folding_in s) e) (sym (ap (found_row t.rows k) there ∙ no_row (found_row t.rows k i) h))
+
+  -- the same of a copy, which may want memory
+  pub stmt_copied : {E : Type 0} (r : Result Stmt E) (k i : ℕ) (x : Stmt) → None ≡ row_of (found_row t.rows k i) → IfOk r (λ y. y ≡ x) → IfOk r (λ y. y ≡ stmt_in s t k i x)
+  stmt_copied r k i x e h = subst (λ z. IfOk r (λ y. y ≡ z)) (stmt_stays k i x e) h
 
 -- ---- checks
 

@@ -15,6 +15,7 @@ use gimple_core::{Block, End, Exact, Listed, OutOfMemory, Stmt, Stmts};
 
 impl<'a> Folder<'a> {
     /// The statement at a point, by the numbers of its block and of the index there. At a point that is not reached it stays.
+    #[tactic(auto, using(crate::proofs::AtPoints::stmt_copied))]
     fn statement_at(
         &self,
         values: &BodyValues,
