@@ -29,11 +29,11 @@ use Rattle.body_values.proofs.Held.{same_test}
 use Rattle.body_fold.specs.Fold.{passes, put_or, right_check}
 use Rattle.body_fold.proofs.Passing.{own_scalar}
 
-passes_demand : (b : Bool) (code : ℕ) → passes (demand b code) ≡ b
+pub passes_demand : (b : Bool) (code : ℕ) → passes (demand b code) ≡ b
 passes_demand true code = refl
 passes_demand false code = refl
 
-passes_then : (v w : Verdict (Unit {0})) → passes (v >> w) ≡ (passes v && passes w)
+pub passes_then : (v w : Verdict (Unit {0})) → passes (v >> w) ≡ (passes v && passes w)
 passes_then (Ok x) w = refl
 passes_then (Err code) w = refl
 
@@ -58,7 +58,7 @@ same_self Ptr = refl
 
 -- ---- names
 
-has_any : {T : Type 0} (key : T → List ℕ) (name : List ℕ) (xs : List T) → has name (map (λ x. (key x, x)) xs) ≡ list_any (λ x. same_name (key x) name) xs
+pub has_any : {T : Type 0} (key : T → List ℕ) (name : List ℕ) (xs : List T) → has name (map (λ x. (key x, x)) xs) ≡ list_any (λ x. same_name (key x) name) xs
 has_any key name [] = refl
 has_any key name (x ∷ xs) = by (bytes_eq name (key x)) (same_name (key x) name) (same_key name (key x)) (has_any key name xs)
   where

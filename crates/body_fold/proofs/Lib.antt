@@ -8,6 +8,8 @@ pub mod Running
 pub mod Relabelled
 pub mod Passing
 pub mod Checking
+pub mod Placing
+pub mod PutIn
 pub mod Labels
 pub mod Accepted
 pub mod Spelled

@@ -1,4 +1,5 @@
 pub mod Fold
+pub mod Putting
 pub mod Folders
 pub mod Blocks
 pub mod Links

@@ -11,6 +11,7 @@ mod folding;
 mod laws;
 mod links;
 mod operands;
+mod places;
 mod statements;
 
 pub use folding::fold;

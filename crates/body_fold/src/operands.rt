@@ -1,14 +1,34 @@
 //! Operands with known constants put in.
 
-ghost use Rattle.std.specs.Prelude.{◌≡◌, IfOk};
+ghost use Rattle.std.specs.Prelude.{◌≡◌, IfOk, find};
+ghost use Rattle.std.specs.Option.{option_copied};
+ghost use Rattle.gimple_core.specs.Env.{named};
+ghost use Rattle.gimple_core.specs.Names.{same_name};
 ghost use Rattle.gimple_core.specs.Statements as check;
 ghost use Rattle.body_values.specs.Scenes.{Fit};
-ghost use Rattle.body_fold.specs.Fold.{constant_operand, constant_for, folded_operand, folded_left, folded_right, right_check};
+ghost use Rattle.body_fold.specs.Fold.{constant_operand, constant_for, folded_operand, folded_left, folded_right, formals_of, folded_arguments, right_check};
 ghost use Rattle.body_fold.specs.Folders.{folding_in, IsFolder};
+ghost use Rattle.body_fold.specs.Putting.{put_in, argument_of};
 
 use crate::folder::Folder;
-use gimple_core::{Cmp, Constant, Exact, Op, Operand, OutOfMemory, Scalar};
+use gimple_core::{
+    Cmp, Constant, Exact, Function, Listed, Op, Operand, Operands, OutOfMemory, Register, Scalar,
+    Text, same_name,
+};
 use value_domain::AbsVal;
+
+/// Both sides of a comparison.
+#[derive(Drop)]
+pub(crate) struct Sides {
+    pub(crate) left: Operand,
+    pub(crate) right: Operand,
+}
+
+fn named_function<'a>(functions: &'a [Function], name: &Text) -> Option<&'a Function>
+    ensures { option_copied result ≡ find (λ f. same_name f.name name.now) functions.now }
+{
+    functions.iter().find(|f| same_name(&f.name, name))
+}
 
 impl<'a> Folder<'a> {
     /// A constant as an operand. None is no operand.
@@ -113,5 +133,122 @@ impl<'a> Folder<'a> {
                 from.copy()
             }
         }
+    }
+
+    /// The constant that stands for the right side of a comparison, where it passes the check.
+    fn right_constant(
+        &self,
+        row: &[AbsVal],
+        left: &Operand,
+        cmp: Cmp,
+        right: &Operand,
+    ) -> Result<Option<Operand>, OutOfMemory>
+        requires folder { IsFolder self.now }
+        requires fit { Fit self.now.scene row.now }
+        ensures { IfOk result (λ o. o ≡ put_in (λ y. check.compared (folding_in self.now).env left.now cmp y) (constant_for (folding_in self.now).body row.now right.now)) }
+    {
+        match self.constant_for(row, right)? {
+            None => Ok(None),
+            Some(constant) => {
+                if self.admits_comparison(left, cmp, &constant) {
+                    return Ok(Some(constant));
+                }
+                Ok(None)
+            }
+        }
+    }
+
+    /// The left side of a comparison.
+    fn left_side(
+        &self,
+        row: &[AbsVal],
+        left: &Operand,
+        cmp: Cmp,
+        right: &Operand,
+    ) -> Result<Operand, OutOfMemory>
+        requires folder { IsFolder self.now }
+        requires fit { Fit self.now.scene row.now }
+        ensures { IfOk result (λ y. y ≡ folded_operand (folding_in self.now) row.now (λ y. check.compared (folding_in self.now).env y cmp right.now) left.now) }
+    {
+        match self.constant_for(row, left)? {
+            None => left.copy(),
+            Some(constant) => {
+                if self.admits_comparison(&constant, cmp, right) {
+                    return Ok(constant);
+                }
+                left.copy()
+            }
+        }
+    }
+
+    /// Both sides of a comparison. A constant is put on the right side, and only where none is, on the left one.
+    pub(crate) fn sides(
+        &self,
+        row: &[AbsVal],
+        left: &Operand,
+        cmp: Cmp,
+        right: &Operand,
+    ) -> Result<Sides, OutOfMemory>
+        requires folder { IsFolder self.now }
+        requires fit { Fit self.now.scene row.now }
+        ensures left { IfOk result (λ s. s.left ≡ folded_left (folding_in self.now) row.now left.now cmp right.now) }
+        ensures right { IfOk result (λ s. s.right ≡ folded_right (folding_in self.now) row.now left.now cmp right.now) }
+    {
+        match self.right_constant(row, left, cmp, right)? {
+            Some(constant) => Ok(Sides {
+                left: left.copy()?,
+                right: constant,
+            }),
+            None => Ok(Sides {
+                left: self.left_side(row, left, cmp, right)?,
+                right: right.copy()?,
+            }),
+        }
+    }
+
+    /// The formals of a function by name; of no function there are none.
+    pub(crate) fn formals(&self, callee: &Text) -> &'a [Register]
+        ensures { result.now ≡ formals_of (named callee.now (folding_in self.now).names) }
+    {
+        match named_function(self.scene.program.functions.as_slice(), callee) {
+            Some(function) => function.params.as_slice(),
+            None => &[],
+        }
+    }
+
+    /// An argument against its formal.
+    fn argument(
+        &self,
+        row: &[AbsVal],
+        formal: Option<&Register>,
+        argument: &Operand,
+    ) -> Result<Operand, OutOfMemory>
+        requires folder { IsFolder self.now }
+        requires fit { Fit self.now.scene row.now }
+        ensures { IfOk result (λ y. y ≡ argument_of (folding_in self.now) row.now (option_copied formal.entry) argument.now) }
+    {
+        match formal {
+            None => argument.copy(),
+            Some(formal) => self.operand(row, formal.scalar, argument),
+        }
+    }
+
+    /// The arguments of a call against its formals.
+    pub(crate) fn arguments(
+        &self,
+        row: &[AbsVal],
+        formals: &[Register],
+        arguments: &[Operand],
+    ) -> Result<Operands, OutOfMemory>
+        requires folder { IsFolder self.now }
+        requires fit { Fit self.now.scene row.now }
+        ensures { IfOk result (λ ys. ys ≡ folded_arguments (folding_in self.now) row.now formals.now arguments.now) }
+    {
+        let mut folded = Listed::new(self.scene.alloc);
+        for (place, argument) in arguments.iter().enumerate() {
+            let known = self.argument(row, formals.get(place), argument)?;
+            folded.push(known)?;
+        }
+        Ok(folded)
     }
 }

@@ -1,0 +1,17 @@
+use Rattle.std.proofs.Common.{rules, ◌≡◌, ◌∙◌, sym, ap, None, Some}
+use Rattle.std.specs.List.{find}
+use Rattle.gimple_ir.specs.declared.program.Function.{Function}
+use Rattle.gimple_core.specs.Names.{same_name}
+use Rattle.gimple_core.proofs.EnvLemmas.{named_find}
+use Rattle.body_fold.specs.Fold.{formals_of}
+use Rattle.body_fold.proofs.folder.Folder.formals.Goals as goal
+
+pub returns-in-Some : goal.returns-in-Some
+returns-in-Some c =
+    let found : find (λ (f : Function). same_name f.name c.args.callee.now) c.args.self.now.scene.program.now.functions ≡ Some c.in-Some.function.now = search rules in
+    c.as_slice-in-Some.ensures ∙ sym (ap formals_of (named_find (λ (f : Function). f.name) c.args.callee.now c.args.self.now.scene.program.now.functions ∙ found))
+
+pub returns-in-None : goal.returns-in-None
+returns-in-None c =
+    let found : find (λ (f : Function). same_name f.name c.args.callee.now) c.args.self.now.scene.program.now.functions ≡ None = search rules in
+    sym (ap formals_of (named_find (λ (f : Function). f.name) c.args.callee.now c.args.self.now.scene.program.now.functions ∙ found))
