@@ -1,5 +1,5 @@
 -- What the check of a place in a global asks for.
-use Rattle.std.proofs.Common.{◌≡◌, ℕ, ℤ, Bool, true, false, not, cond, ◌&&◌, if◌then◌else◌, List, [], ◌∷◌, map, refl, sym, ◌∙◌, ap, Option, Some, None, slice_get}
+use Rattle.std.proofs.Common.{◌≡◌, ℕ, ℤ, Bool, true, false, not, cond, ◌&&◌, refl, sym, ◌∙◌, ap, Option, Some, None, slice_get}
 use Rattle.std.specs.Prelude.{is_some}
 use Rattle.std.specs.List.{find, position_or_len}
 use Rattle.std.proofs.lemmas.List.Folds.{find_at}
@@ -20,7 +20,6 @@ use Rattle.gimple_core.specs.Env.{named, is_constant, variable, globals_by_name,
 use Rattle.gimple_core.specs.Statements as s
 use Rattle.gimple_core.proofs.EnvLemmas.{named_find}
 use Rattle.gimple_claims.specs.Checks.{env_of}
-use Rattle.body_values.specs.Bodies.{is_local}
 use Rattle.body_fold.specs.declared.places.Access.{Access}
 use Rattle.body_fold.specs.declared.places.Access.TheVariants.{Load, Store}
 use Rattle.body_fold.specs.Fold.{passes}

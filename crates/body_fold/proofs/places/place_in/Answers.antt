@@ -3,7 +3,6 @@ use Rattle.std.specs.Int.{w128}
 use Rattle.std.proofs.lemmas.Int.{to_z-of_z}
 use Rattle.gimple_ir.specs.declared.scalar.Scalar.TheVariants.{I64}
 use Rattle.gimple_ir.specs.declared.operand.Base.TheVariants.{Variable}
-use Rattle.gimple_ir.specs.declared.operand.Place.{Place}
 use Rattle.gimple_core.specs.Operators.{wrapped}
 use Rattle.gimple_core.specs.State.{offset_in}
 use Rattle.body_fold.proofs.places.place_in.Goals as goal

@@ -1,6 +1,6 @@
 use Rattle.std.proofs.Common.{rules, ◌≡◌, ◌∙◌, None, Some}
 use Rattle.gimple_core.specs.Statements as check
-use Rattle.body_fold.specs.Fold.{constant_for, folded_operand}
+use Rattle.body_fold.specs.Fold.{constant_for}
 use Rattle.body_fold.specs.Folders.{folding_in}
 use Rattle.body_fold.specs.Putting.{put_in}
 use Rattle.body_fold.proofs.PutIn.{right_put, left_put}
