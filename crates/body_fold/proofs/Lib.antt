@@ -10,6 +10,7 @@ pub mod Passing
 pub mod Checking
 pub mod Placing
 pub mod PutIn
+pub mod Ending
 pub mod Labels
 pub mod Accepted
 pub mod Spelled

@@ -23,7 +23,7 @@ fn number_of(scalar: Scalar, constant: Constant) -> i128
 }
 
 /// A constant as a number of any integer scalar.
-fn any_of(constant: Constant) -> i128
+pub(crate) fn any_of(constant: Constant) -> i128
     ensures value { result ≡ any_number (value_of_constant constant) }
     ensures word { IsWord result }
 {
