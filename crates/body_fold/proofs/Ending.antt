@@ -1,5 +1,5 @@
 -- Ends with known constants put in.
-use Rattle.std.proofs.Common.{◌≡◌, ℕ, if◌then◌else◌, List, refl, sym, ◌∙◌, ap, subst, Option, Some, None, Ok, Err}
+use Rattle.std.proofs.Common.{◌≡◌, ℕ, List, refl, sym, ◌∙◌, ap, subst, Option, Some, None, Ok, Err}
 use Rattle.gimple_ir.specs.declared.scalar.Scalar.{Scalar}
 use Rattle.gimple_ir.specs.declared.scalar.Cmp.{Cmp}
 use Rattle.gimple_ir.specs.declared.operand.Operand.{Operand}
