@@ -10,7 +10,8 @@ use Rattle.gimple_ir.specs.declared.program.Program.{Program}
 use Rattle.gimple_exec.specs.Machines.{function_of, no_function}
 use Rattle.gimple_exec.specs.Tables.{names_of, labels_of, labels_in, layouts_of, layouts_in}
 use Rattle.gimple_exec.specs.Places.{IsPlace}
-use Rattle.gimple_exec.proofs.Naming.{place_by, position_map}
+use Rattle.name_tables.proofs.Naming.{position_map}
+use Rattle.gimple_exec.proofs.Naming.{place_by}
 
 -- the place of a label in a function's row
 pub label_in : (p : Program) (rows : List (List ℕ)) (k label : ℕ) (row : List ℕ) (r : Option ℕ) → rows ≡ labels_in p.functions → k < length p.functions → row ≡ get_or rows k row → r ≡ position (λ l. l == label) row → IsPlace (λ b. b.label == label) (function_of p k).blocks r

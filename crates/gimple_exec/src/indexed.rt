@@ -8,9 +8,8 @@ ghost use Rattle.gimple_exec.specs.Places.{IsPlace};
 ghost use Rattle.gimple_exec.specs.Machines.{function_of, block_of, IsLimited};
 ghost use Rattle.gimple_exec.specs.Tables.{names_of, labels_of, labels_in, layouts_of, layouts_in};
 
-use crate::labels::Labels;
-use crate::names::Names;
 use gimple_core::{Block, Decl, Function, Layout, Listed, OutOfMemory, Program, Text, layout_of};
+use name_tables::{Labels, Names};
 use std::alloc::Global as Heap;
 use std::marker::Model;
 

@@ -43,6 +43,7 @@ fn place_from_front(names: &[&[u8]], name: &[u8]) -> Option<usize>
 }
 
 impl<'a> Names<'a> {
+    /// A row of no names. It takes no memory before the first one.
     pub fn new(alloc: Heap) -> Names<'a>
         ensures { result ≡ [] }
     {
@@ -67,7 +68,7 @@ impl<'a> Names<'a> {
         Ok(())
     }
 
-    /// The place of the first name that is this one.
+    /// The place of the first name that is this one; None exactly where no name is.
     pub fn place(&self, name: &'a [u8]) -> Option<usize>
         ensures { result ≡ position (λ n. same_name n name.now) self.now }
     {

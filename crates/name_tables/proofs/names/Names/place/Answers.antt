@@ -1,8 +1,8 @@
 use Rattle.std.proofs.Common.{◌∙◌, ap, sym, refl, List, ℕ, Bor}
 use Rattle.std.specs.List.{position}
 use Rattle.gimple_core.specs.Names.{same_name}
-use Rattle.gimple_exec.proofs.Naming.{plain, set_place, position_map}
-use Rattle.gimple_exec.proofs.names.Names.place.Goals as goal
+use Rattle.name_tables.proofs.Naming.{plain, set_place, position_map}
+use Rattle.name_tables.proofs.names.Names.place.Goals as goal
 
 pub returns-then-len-gt-FEW : goal.returns-then-len-gt-FEW
 returns-then-len-gt-FEW c =

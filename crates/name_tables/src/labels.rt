@@ -35,6 +35,7 @@ fn place_from_front(labels: &[u64], label: u64) -> Option<usize>
 }
 
 impl Labels {
+    /// A row of no labels. It takes no memory before the first one.
     pub fn new(alloc: Heap) -> Labels
         ensures { result ≡ [] }
     {
@@ -59,7 +60,7 @@ impl Labels {
         Ok(())
     }
 
-    /// The place of the first label that is this one.
+    /// The place of the first label that is this one; None exactly where no label is.
     pub fn place(&self, label: u64) -> Option<usize>
         ensures { result ≡ position (λ l. l == label) self.now }
     {

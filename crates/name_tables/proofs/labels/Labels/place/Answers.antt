@@ -1,7 +1,7 @@
 use Rattle.std.proofs.Common.{◌∙◌, ◌==◌, ap, List, ℕ}
 use Rattle.std.specs.List.{position}
-use Rattle.gimple_exec.proofs.Naming.{label_place}
-use Rattle.gimple_exec.proofs.labels.Labels.place.Goals as goal
+use Rattle.name_tables.proofs.Naming.{label_place}
+use Rattle.name_tables.proofs.labels.Labels.place.Goals as goal
 
 pub returns-then-len-gt-FEW : goal.returns-then-len-gt-FEW
 returns-then-len-gt-FEW c =
