@@ -47,6 +47,7 @@ fn named_register<'a>(registers: &'a [Register], name: &Text) -> Option<&'a Regi
 }
 
 impl<'a> Folder<'a> {
+    /// Whether a local or a global has the name.
     fn is_variable(&self, name: &Text) -> bool
         ensures { result ≡ is_variable (folding_in self.now).env name.now }
     {

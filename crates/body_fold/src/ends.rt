@@ -14,15 +14,17 @@ use crate::folder::Folder;
 use gimple_core::{Case, Cases, Cmp, Constant, End, Exact, Operand, OutOfMemory, eval_cmp};
 use value_domain::AbsVal;
 
+/// Whether a constant is the number 0.
 fn is_zero(constant: Constant) -> bool
     ensures { result ≡ is_zero constant }
 {
     match constant {
-        Constant::Int(value) => value <= 0 && 0 <= value,
+        Constant::Int(value) => value == 0,
         _ => false,
     }
 }
 
+/// The first case with this value.
 fn case_of(on: i128, cases: &[Case]) -> Option<&Case>
     ensures { option_copied result ≡ find (λ c. cmp_of Cmp.Eq on c.value) cases.now }
 {

@@ -54,6 +54,7 @@ fn place_in(variable: &Text, start: i64, offset: i128) -> Result<Place, OutOfMem
     })
 }
 
+/// Whether a slot of a place and scalar is among the slots.
 fn has_slot(slots: &[LayoutSlot], place: &Place, scalar: Scalar) -> bool
     ensures { result ≡ has_slot slots.now place.now.offset scalar }
 {
@@ -61,6 +62,7 @@ fn has_slot(slots: &[LayoutSlot], place: &Place, scalar: Scalar) -> bool
 }
 
 impl<'a> Folder<'a> {
+    /// Whether a global has a slot at a place.
     fn slot_in(&self, global: &Variable, scalar: Scalar, place: &Place) -> Result<bool, OutOfMemory>
         requires layout { HasLayout self.now.scene.program.now.structs global.now.decl }
         ensures { IfOk result (λ b. b ≡ has_slot (layout_of self.now.scene.program.now.structs global.now.decl).slots place.now.offset scalar) }

@@ -14,6 +14,7 @@ use gimple_core::{Cmp, Exact, Op, Operand, Operands, OutOfMemory, Place, Scalar,
 use value_domain::AbsVal;
 
 impl<'a> Folder<'a> {
+    /// A copy, with a constant in the place of what is copied.
     #[tactic(auto, unfolding(crate::specs::Fold::with_operands))]
     fn copied(
         &self,
@@ -32,6 +33,7 @@ impl<'a> Folder<'a> {
         })
     }
 
+    /// An operator, with constants in the places of its sides.
     #[tactic(auto, unfolding(crate::specs::Fold::with_operands))]
     fn computed(
         &self,
@@ -54,6 +56,7 @@ impl<'a> Folder<'a> {
         })
     }
 
+    /// A comparison, with a constant in the place of one side.
     #[tactic(auto, unfolding(crate::specs::Fold::with_operands))]
     fn decided(
         &self,
@@ -77,6 +80,7 @@ impl<'a> Folder<'a> {
         })
     }
 
+    /// A load, by the variable to which its base is known to point.
     #[tactic(auto, unfolding(crate::specs::Fold::with_operands))]
     fn loaded(
         &self,
@@ -97,6 +101,7 @@ impl<'a> Folder<'a> {
         })
     }
 
+    /// A store, by the variable to which its base is known to point, with a constant in the place of what is stored.
     #[tactic(auto, unfolding(crate::specs::Fold::with_operands))]
     fn stored(
         &self,
@@ -117,6 +122,7 @@ impl<'a> Folder<'a> {
         })
     }
 
+    /// A call, with constants in the places of arguments.
     #[tactic(auto, unfolding(crate::specs::Fold::with_operands))]
     fn called(
         &self,
@@ -137,6 +143,7 @@ impl<'a> Folder<'a> {
         })
     }
 
+    /// What is printed, with a constant in its place.
     #[tactic(auto, unfolding(crate::specs::Fold::with_operands))]
     fn put_out(&self, row: &[AbsVal], scalar: Scalar, from: &Operand) -> Result<Stmt, OutOfMemory>
         requires folder { IsFolder self.now }
