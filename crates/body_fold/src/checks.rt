@@ -1,8 +1,7 @@
 //! Whether an operand passes the check of the place where it is put.
 
-ghost use Rattle.std.specs.Prelude.{◌≡◌, ◌&&◌, ◌||◌, not, find};
+ghost use Rattle.std.specs.Prelude.{◌≡◌, ◌&&◌, ◌||◌, not};
 ghost use Rattle.std.specs.List.{list_any};
-ghost use Rattle.std.specs.Option.{option_copied};
 ghost use Rattle.gimple_core.specs.Env.{is_variable};
 ghost use Rattle.gimple_core.specs.Memory.{same_scalar};
 ghost use Rattle.gimple_core.specs.Names.{same_name};
@@ -13,7 +12,7 @@ ghost use Rattle.body_fold.specs.Folders.{folding_in, IsFolder};
 
 use crate::folder::Folder;
 use body_values::{is_local_name, pointer};
-use gimple_core::{Cmp, Global as Variable, Op, Operand, Register, Scalar, Text, fits, same_name};
+use gimple_core::{Cmp, Global as Variable, Op, Operand, Scalar, Text, fits, same_name};
 
 fn same_scalar(left: Scalar, right: Scalar) -> bool
     ensures { result ≡ same_scalar left right }
@@ -40,12 +39,6 @@ fn is_global_name(globals: &[Variable], name: &Text) -> bool
     globals.iter().any(|g| same_name(&g.decl.name, name))
 }
 
-fn named_register<'a>(registers: &'a [Register], name: &Text) -> Option<&'a Register>
-    ensures { option_copied result ≡ find (λ r. same_name r.name name.now) registers.now }
-{
-    registers.iter().find(|r| same_name(&r.name, name))
-}
-
 impl<'a> Folder<'a> {
     /// Whether a local or a global has the name.
     fn is_variable(&self, name: &Text) -> bool
@@ -61,7 +54,7 @@ impl<'a> Folder<'a> {
         ensures { result ≡ passes (check.operand (folding_in self.now).env 4 scalar operand.now) }
     {
         match operand {
-            Operand::Reg(name) => match named_register(self.scene.registers, name) {
+            Operand::Reg(name) => match self.scene.registers.named(name) {
                 Some(register) => same_scalar(register.scalar, scalar),
                 None => false,
             },

@@ -1,8 +1,11 @@
 -- The branches of blocks, one after the other, and how many there are.
-use Rattle.std.proofs.Common.{◌≡◌, ℕ, zero, suc, ◌+◌, ◌<◌, ◌≤◌, ◌^◌, List, [], ◌∷◌, ◌++◌, length, length-append, append_assoc, drop, get_or, refl, sym, ◌∙◌, ap, arith}
+use Rattle.std.proofs.Common.{◌≡◌, ℕ, zero, suc, ◌+◌, ◌<◌, ◌≤◌, ◌^◌, ◌==◌, List, [], ◌∷◌, ◌++◌, map, Option, Some, None, IfSome, length, length-append, append_assoc, drop, get_or, refl, sym, ◌∙◌, ap, arith}
+use Rattle.std.specs.List.{position}
+use Rattle.std.proofs.lemmas.List.Quantifiers.{position-Some}
 use Rattle.std.proofs.lemmas.List.{drop_more}
 use Rattle.gimple_ir.specs.declared.block.Block.{Block}
 use Rattle.gimple_core.specs.Run.{block_place, place_or}
+use Rattle.name_tables.proofs.Naming.{position_map}
 use Rattle.body_values.specs.declared.branches.Branch.{Branch}
 use Rattle.body_values.specs.Flow.{labels_of, branches_to, branches_from, branches_of}
 
@@ -33,3 +36,18 @@ next_branch all k i ls d x found new e l is pushed h =
     ∙ (append_assoc found (x ∷ []) rest
     ∙ (ap (λ (y : Branch). found ++ (y ∷ rest)) is
     ∙ (ap (λ (ys : List ℕ). found ++ branches_to all k i ys) (sym (drop_more ls i d l)) ∙ h)))
+
+-- ---- the blocks by their labels
+
+-- the place of a label among the labels is that of its block
+pub labelled : (blocks : List Block) (labels : List ℕ) (label : ℕ) (r : Option ℕ) → labels ≡ map (λ b. b.label) blocks → r ≡ position (λ l. l == label) labels → r ≡ block_place label blocks
+labelled blocks labels label r same found =
+    found
+    ∙ ap (λ (ls : List ℕ). position (λ l. l == label) ls) same
+    ∙ position_map (λ (b : Block). b.label) (λ l. l == label) (λ b. b.label == label) (λ b. refl) blocks
+
+-- a block of a label is among the blocks
+pub block_within : (blocks : List Block) (label : ℕ) (r : Option ℕ) → r ≡ block_place label blocks → IfSome r (λ k. k < length blocks)
+block_within blocks label None e = tt
+block_within [] label (Some k) e = cc
+block_within (b ∷ blocks) label (Some k) e = (position-Some (λ (b : Block). b.label == label) (b ∷ blocks) k b (sym e)).0

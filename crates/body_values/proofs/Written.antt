@@ -3,11 +3,13 @@ use Rattle.std.proofs.Common.{◌≡◌, ℕ, zero, suc, ◌≤◌, ◌==◌, �
 use Rattle.std.proofs.lemmas.Int.{ints}
 use Rattle.std.specs.Prelude.{MatchBool, ⊤}
 use Rattle.std.specs.List.{find}
+use Rattle.std.proofs.lemmas.List.Folds.{find_at}
 use Rattle.std.proofs.lemmas.Bool.{cases_Bool, eqb-true, eq-eqb}
 use Rattle.gimple_ir.specs.declared.value.LayoutSlot.{LayoutSlot}
 use Rattle.gimple_ir.specs.declared.operand.Base.TheVariants.{Variable}
 use Rattle.gimple_ir.specs.declared.operand.Place.{Place}
 use Rattle.gimple_ir.specs.declared.declarations.Global.{Global}
+use Rattle.gimple_ir.specs.declared.declarations.Register.{Register}
 use Rattle.gimple_ir.specs.declared.statement.Stmt.{Stmt}
 use Rattle.gimple_core.specs.Names.{same_name}
 use Rattle.fix_engine.specs.declared.lifted.Lifted.TheVariants.{NotReached, Reached}
@@ -23,7 +25,7 @@ use Rattle.value_domain.specs.declared.abs_val.AbsVal.{AbsVal}
 use Rattle.value_domain.specs.Values.{FitsWith, abs_val_below}
 use Rattle.value_domain.specs.Thresholds.{IsLawful}
 use Rattle.body_values.specs.declared.scene.Scene.{Scene}
-use Rattle.body_values.specs.Bodies.{Body, operand_value, is_local, item_constant, slot_place, slot_value, constant_slot, item_value, after_stmt}
+use Rattle.body_values.specs.Bodies.{Body, scalar_or, register_scalar, operand_value, is_local, item_constant, slot_place, slot_value, constant_slot, item_value, after_stmt}
 use Rattle.body_values.specs.Scenes.{body_in, Fit, IsGoodIn, IsReady}
 use Rattle.body_values.specs.Rows.{LiftedFits, row_below, below_self}
 use Rattle.body_values.specs.Rising.{RowsRise, operand_rises, stmt_rises}
@@ -97,3 +99,7 @@ pub slot_some : (B : Body) (scalar : Scalar) (offset : ℤ) (g : Global) (ls : L
 slot_some B scalar offset g ls n v c l e h =
     let f : slot_place (layout_of B.structs g.decl).slots offset scalar ≡ Some n = ap (λ ys. slot_place ys offset scalar) (sym l) ∙ e in
     ap (λ u. Some u) h ∙ (λ i. cond (sym c i) (slot_value B scalar g (sym f i)) None)
+
+-- the scalar of a register that was found by its name
+pub scalar_found : (rs : List Register) (name : List ℕ) (r : Option Register) → r ≡ find (λ r. same_name r.name name) rs → scalar_or r ≡ register_scalar rs name
+scalar_found rs name r e = ap scalar_or (e ∙ find_at (λ (r : Register). same_name r.name name) rs)

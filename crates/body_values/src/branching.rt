@@ -6,23 +6,62 @@ ghost use Rattle.body_values.specs.Flow.{labels_of, branches_to, branches_from, 
 
 use crate::branches::Branch;
 use gimple_core::{Block, Case, End, OutOfMemory};
+use name_tables::Labels;
 use std::alloc::Global;
+use std::marker::Model;
 
-/// The number of the first block of a label.
-fn place_of_label(blocks: &[Block], label: u64) -> Option<usize>
-    ensures value { result ≡ block_place label blocks.now }
-    ensures within { IfSome result (λ k. k < length blocks.now) }
+/// Blocks in a row, each found by its label.
+#[derive(Drop)]
+struct LabelledBlocks<'a> {
+    blocks: &'a [Block],
+    labels: Labels,
+}
+
+impl<'a> Model for LabelledBlocks<'a> {
+    ghost use Rattle.std.specs.Prelude.{◌≡◌, List, map};
+    ghost use Rattle.gimple_ir.specs.declared.block.Block.{Block};
+
+    ghost Value = { List Block };
+
+    ghost view = { λ t. t.blocks.now };
+
+    ghost invariant = { λ t. t.labels ≡ map (λ b. b.label) t.blocks.now };
+}
+
+fn block_labels(alloc: Global, blocks: &[Block]) -> Result<Labels, OutOfMemory>
+    ensures { IfOk result (λ labels. labels ≡ map (λ b. b.label) blocks.now) }
 {
-    blocks.iter().position(|b| b.label == label)
+    let mut labels = Labels::new(alloc);
+    for at in 0..blocks.len() {
+        labels.push(blocks[at].label)?;
+    }
+    Ok(labels)
+}
+
+impl<'a> LabelledBlocks<'a> {
+    fn new(alloc: Global, blocks: &'a [Block]) -> Result<LabelledBlocks<'a>, OutOfMemory>
+        ensures { IfOk result (λ t. t ≡ blocks.now) }
+    {
+        let labels = block_labels(alloc, blocks)?;
+        Ok(LabelledBlocks { blocks, labels })
+    }
+
+    /// The number of the first block of a label.
+    fn place(&self, label: u64) -> Option<usize>
+        ensures value { result ≡ block_place label self.now }
+        ensures within { IfSome result (λ k. k < length self.now) }
+    {
+        self.labels.place(label)
+    }
 }
 
 /// The branch to a label; where no block has it, to the first one.
-fn branch(blocks: &[Block], source: u32, slot: usize, label: u64) -> Branch
+fn branch(blocks: &LabelledBlocks, source: u32, slot: usize, label: u64) -> Branch
     requires blocks { length blocks.now < 2 ^ 32 }
     requires slot { slot < 2 ^ 32 }
     ensures { result ≡ record { source = source; slot = slot; target = place_or (block_place label blocks.now) } }
 {
-    let target = match place_of_label(blocks, label) {
+    let target = match blocks.place(label) {
         Some(place) => place as u32,
         None => 0,
     };
@@ -68,7 +107,7 @@ fn labels(alloc: Global, end: &End) -> Result<Vec<u64>, OutOfMemory>
 
 /// Puts the branches of a block behind the others.
 fn put_branches(
-    blocks: &[Block],
+    blocks: &LabelledBlocks,
     source: u32,
     labels: &[u64],
     found: &mut Vec<Branch>,
@@ -90,10 +129,11 @@ pub fn branches_of(alloc: Global, blocks: &[Block]) -> Result<Vec<Branch>, OutOf
     requires few { length (branches_of blocks.now) < 2 ^ 32 }
     ensures { IfOk result (λ v. v.items ≡ branches_of blocks.now) }
 {
+    let labelled = LabelledBlocks::new(alloc, blocks)?;
     let mut found = Vec::new(alloc);
     for source in 0..blocks.len() {
         let labels = labels(alloc, &blocks[source].end)?;
-        put_branches(blocks, source as u32, labels.as_slice(), &mut found)?;
+        put_branches(&labelled, source as u32, labels.as_slice(), &mut found)?;
     }
     Ok(found)
 }

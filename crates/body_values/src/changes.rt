@@ -5,7 +5,7 @@ ghost use Rattle.std.specs.Option.{option_copied};
 ghost use Rattle.fix_engine.specs.declared.lifted.Lifted.{Lifted};
 ghost use Rattle.fix_engine.specs.declared.lifted.Lifted.TheVariants.{NotReached, Reached};
 ghost use Rattle.value_domain.specs.Values.{is_none_val};
-ghost use Rattle.body_values.specs.Bodies.{place_of, register_scalar, put_value, brought_or, item_constant, slot_place, slot_value, constant_slot, item_value, load_value, target_of, result_value, is_abort, after_target, after_stmt, after_body};
+ghost use Rattle.body_values.specs.Bodies.{register_scalar, put_value, brought_or, item_constant, slot_place, slot_value, constant_slot, item_value, load_value, target_of, result_value, is_abort, after_target, after_stmt, after_body};
 ghost use Rattle.body_values.specs.Flow.{is_point, given_load};
 ghost use Rattle.body_values.specs.Scenes.{body_in, Fit, IsGoodIn, IsReady};
 ghost use Rattle.gimple_core.specs.Layout.{HasLayout};
@@ -14,7 +14,7 @@ ghost use Rattle.gimple_core.specs.Names.{same_name};
 ghost use Rattle.gimple_core.specs.Statements.{is_slot_at};
 
 use crate::facts::LoadFact;
-use crate::scene::{Scene, global_number, is_local_name, offset_of, place_of, pointer, scalar_of};
+use crate::scene::{Scene, global_number, is_local_name, offset_of, pointer, scalar_of};
 use fix_engine::Rows;
 use gimple_core::{
     Base, Constant, Global as Variable, LayoutSlot, Operand, OutOfMemory, Place, Point, Scalar,
@@ -261,7 +261,7 @@ impl<'a> Scene<'a> {
         if value.range.high < value.range.low {
             return false;
         }
-        let place = place_of(self.registers, name);
+        let place = self.registers.place(name);
         if place < row.as_slice().len() {
             row.set(place, value);
         }

@@ -7,7 +7,8 @@ ghost use Rattle.body_values.specs.Flow.{zero_constant, zero_value, entry_row};
 
 use crate::scene::pointer;
 use fix_engine::{Lattice, Lifted, Rows};
-use gimple_core::{Constant, Exact, Function, OutOfMemory, Register, Registers};
+use gimple_core::{Constant, Exact, Function, OutOfMemory, Register};
+use name_tables::RegisterTable;
 use std::alloc::Global;
 use value_domain::{AbsVal, Thresholds, exactly};
 
@@ -75,14 +76,21 @@ pub fn entry_row(
     Ok(Lifted::Reached(Rows::new(row)))
 }
 
+fn put_copies(registers: &[Register], table: &mut RegisterTable) -> Result<(), OutOfMemory>
+    ensures { OnOk result (table.new ≡ table.old ++ registers.now) }
+{
+    for at in 0..registers.len() {
+        table.push(registers[at].copy()?)?;
+    }
+    Ok(())
+}
+
 /// The registers of a function, the formals first.
-pub fn registers_of(function: &Function) -> Result<Registers, OutOfMemory>
+pub fn registers_of(alloc: Global, function: &Function) -> Result<RegisterTable, OutOfMemory>
     ensures { IfOk result (λ rs. rs ≡ function.now.params ++ function.now.registers) }
 {
-    let mut all = function.params.copy()?;
-    let registers = function.registers.as_slice();
-    for at in 0..registers.len() {
-        all.push(registers[at].copy()?)?;
-    }
-    Ok(all)
+    let mut table = RegisterTable::new(alloc);
+    put_copies(function.params.as_slice(), &mut table)?;
+    put_copies(function.registers.as_slice(), &mut table)?;
+    Ok(table)
 }

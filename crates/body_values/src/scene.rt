@@ -5,14 +5,15 @@ ghost use Rattle.gimple_core.specs.Names.{same_name};
 ghost use Rattle.gimple_core.specs.Operators.{in_scalar};
 ghost use Rattle.gimple_core.specs.State.{offset_in};
 ghost use Rattle.value_domain.specs.ConstantOperators.{is_pointer};
-ghost use Rattle.body_values.specs.Bodies.{place_of, register_scalar, is_local, global_place, global_value, operand_value};
+ghost use Rattle.body_values.specs.Bodies.{register_scalar, is_local, global_place, global_value, operand_value};
 ghost use Rattle.body_values.specs.Scenes.{body_in, Fit, IsGoodIn};
 
 use crate::facts::LoadFact;
 use gimple_core::{
-    Constant, Decl, Global as Variable, Operand, OutOfMemory, Program, Register, Scalar, Text,
-    fits, same_name,
+    Constant, Decl, Global as Variable, Operand, OutOfMemory, Program, Scalar, Text, fits,
+    same_name,
 };
+use name_tables::RegisterTable;
 use std::alloc::Global;
 use value_domain::{AbsVal, Thresholds, exactly, into_scalar, top};
 
@@ -22,7 +23,7 @@ use value_domain::{AbsVal, Thresholds, exactly, into_scalar, top};
 pub struct Scene<'a> {
     pub program: &'a Program,
     pub locals: &'a [Decl],
-    pub registers: &'a [Register],
+    pub registers: &'a RegisterTable,
     pub loads: &'a [LoadFact],
     pub number: u32,
     pub limits: &'a Thresholds,
@@ -39,27 +40,13 @@ pub fn pointer(scalar: Scalar) -> bool
     }
 }
 
-/// The number of the first register of a name, or how many there are.
-pub fn place_of(registers: &[Register], name: &Text) -> usize
-    ensures { result ≡ place_of registers.now name.now }
-{
-    for place in 0..registers.len() {
-        if same_name(&registers[place].name, name) {
-            return place;
-        }
-    }
-    registers.len()
-}
-
 /// The scalar of the first register of a name; of no register it is `ptr`.
-pub fn scalar_of(registers: &[Register], name: &Text) -> Scalar
+pub fn scalar_of(registers: &RegisterTable, name: &Text) -> Scalar
     ensures { result ≡ register_scalar registers.now name.now }
 {
-    let place = place_of(registers, name);
-    if place < registers.len() {
-        registers[place].scalar
-    } else {
-        Scalar::Ptr
+    match registers.named(name) {
+        Some(register) => register.scalar,
+        None => Scalar::Ptr,
     }
 }
 
@@ -122,7 +109,7 @@ impl<'a> Scene<'a> {
     ) -> Result<AbsVal, OutOfMemory>
         ensures { IfOk result (λ v. v ≡ operand_value (body_in self.now) row.now scalar (Operand.Reg name.now)) }
     {
-        match row.get(place_of(self.registers, name)) {
+        match row.get(self.registers.place(name)) {
             Some(value) => into_scalar(scalar, value),
             None => Ok(top(scalar)),
         }

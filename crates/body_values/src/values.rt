@@ -18,12 +18,10 @@ use crate::entry::{entry_row, registers_of};
 use crate::facts::Facts;
 use crate::flow::ValueFlow;
 use crate::point_rows::PointRows;
-use crate::scene::{Scene, place_of};
+use crate::scene::Scene;
 use fix_engine::{Lifted, Rows, Solver};
-use gimple_core::{
-    Block, Checked, Function, Listed, OutOfMemory, Params, Point, Program, Register, Registers,
-    Text,
-};
+use gimple_core::{Block, Checked, Function, Listed, OutOfMemory, Params, Point, Program, Text};
+use name_tables::RegisterTable;
 use std::alloc::Global;
 use std::marker::Model;
 use value_domain::{AbsVal, Thresholds, thresholds_of};
@@ -32,7 +30,7 @@ use value_domain::{AbsVal, Thresholds, thresholds_of};
 #[derive(Drop)]
 pub struct BodyValues {
     function: u32,
-    registers: Registers,
+    registers: RegisterTable,
     limits: Thresholds,
     rows: Listed<PointRows>,
 }
@@ -99,11 +97,7 @@ impl BodyValues {
         if point.function != self.function {
             return None;
         }
-        value_at(
-            &self.rows,
-            point,
-            place_of(self.registers.as_slice(), register),
-        )
+        value_at(&self.rows, point, self.registers.place(register))
     }
 
     /// Whether a point of the function is reached.
@@ -122,10 +116,10 @@ impl BodyValues {
     }
 
     /// The registers of the function, the formals first.
-    pub fn registers(&self) -> &[Register]
+    pub fn registers(&self) -> &RegisterTable
         ensures { result.now ≡ self.now.registers }
     {
-        self.registers.as_slice()
+        &self.registers
     }
 
     /// The number of the function.
@@ -189,7 +183,7 @@ fn scene_of<'a>(
     program: &'a Program,
     number: u32,
     function: &'a Function,
-    registers: &'a [Register],
+    registers: &'a RegisterTable,
     facts: &'a Facts,
     limits: &'a Thresholds,
     alloc: Global,
@@ -220,17 +214,9 @@ fn values_with<S: Solver>(
     requires { IsGiven program.now function.now facts.now limits }
     ensures { IfOk result (AreFound program.now number function.now facts.now limits) }
 {
-    let registers = registers_of(function)?;
+    let registers = registers_of(alloc, function)?;
     let entry = entry_row(alloc, function, facts.formals.as_slice(), &limits)?;
-    let scene = scene_of(
-        program,
-        number,
-        function,
-        registers.as_slice(),
-        facts,
-        &limits,
-        alloc,
-    );
+    let scene = scene_of(program, number, function, &registers, facts, &limits, alloc);
     let rows = rows_of(scene, function.blocks.as_slice(), &entry, solver)?;
     Ok(BodyValues {
         function: number,

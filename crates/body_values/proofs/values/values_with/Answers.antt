@@ -11,7 +11,7 @@ rows_of-requires-clause-carried g c = carried_of c.scene_of-scene.result c.args.
 
 pub rows_of-requires-clause-few : goal.rows_of-requires-clause-few
 rows_of-requires-clause-few g c =
-    subst (λ (bs : List Block). AreFew bs (length (branches_of bs))) (sym c.as_slice-3.ensures) (are_few c.args.function.now.blocks (length (branches_of c.args.function.now.blocks)) c.requires.size c.requires.branches)
+    subst (λ (bs : List Block). AreFew bs (length (branches_of bs))) (sym c.as_slice-2.ensures) (are_few c.args.function.now.blocks (length (branches_of c.args.function.now.blocks)) c.requires.size c.requires.branches)
 
 pub rows_of-requires-clause-entry : goal.rows_of-requires-clause-entry
 rows_of-requires-clause-entry g c =
@@ -23,5 +23,5 @@ pub returns : goal.returns
 returns g c =
     let entry : c.in_ok-entry.entry ≡ entry_row c.args.function.now c.args.facts.now.formals c.args.limits.size c.args.limits.ends =
     c.in_ok-entry.ensures ∙ ap (λ (fs : List AbsVal). entry_row c.args.function.now fs c.args.limits.size c.args.limits.ends) c.as_slice.ensures in
-    found_of c.scene_of-scene.result c.args.program.now c.args.number c.args.function.now c.args.facts.now c.args.limits c.in_ok-registers.registers c.as_slice-3.result.now c.in_ok-entry.entry c.in_ok-rows.rows
-    c.scene_of-scene.ensures c.in_ok-registers.ensures c.as_slice-3.ensures entry c.in_ok-rows.ensures
+    found_of c.scene_of-scene.result c.args.program.now c.args.number c.args.function.now c.args.facts.now c.args.limits c.in_ok-registers.registers c.as_slice-2.result.now c.in_ok-entry.entry c.in_ok-rows.rows
+    c.scene_of-scene.ensures c.in_ok-registers.ensures c.as_slice-2.ensures entry c.in_ok-rows.ensures
