@@ -4,6 +4,8 @@
 mod labels;
 mod names;
 mod register_table;
+#[cfg(test)]
+mod tests;
 
 pub use labels::Labels;
 pub use names::Names;
