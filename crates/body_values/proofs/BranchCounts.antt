@@ -9,7 +9,7 @@ use Rattle.name_tables.proofs.Naming.{position_map}
 use Rattle.body_values.specs.declared.branches.Branch.{Branch}
 use Rattle.body_values.specs.Flow.{labels_of, branches_to, branches_from, branches_of}
 
-row_count : (all : List Block) (k slot : ℕ) (ls : List ℕ) → length (branches_to all k slot ls) ≡ length ls
+pub row_count : (all : List Block) (k slot : ℕ) (ls : List ℕ) → length (branches_to all k slot ls) ≡ length ls
 row_count all k slot [] = refl
 row_count all k slot (x ∷ ls) = ap suc (row_count all k (slot + 1) ls)
 

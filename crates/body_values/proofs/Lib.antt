@@ -14,3 +14,5 @@ pub mod Layouts
 pub mod Settled
 pub mod ExampleLaws
 pub mod FoundWhereLaws
+pub mod TopFit
+pub mod FewBranches

@@ -13,3 +13,4 @@ pub mod Found
 pub mod Setting
 pub mod Examples
 pub mod FoundWhere
+pub mod TopFacts

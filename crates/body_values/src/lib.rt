@@ -7,12 +7,14 @@ mod changes;
 mod ends;
 mod entry;
 mod facts;
+mod few_branches;
 mod flow;
 mod laws;
 mod point_rows;
 mod scene;
 #[cfg(test)]
 mod tests;
+mod tops;
 mod transfer;
 mod values;
 
@@ -20,6 +22,8 @@ pub use branches::Branch;
 pub use branching::branches_of;
 pub use changes::{is_slot, target};
 pub use facts::{AbsVals, Facts, LoadFact, LoadFacts};
+pub use few_branches::has_few_branches;
 pub use laws::{body_values_cross, values_found, values_hold};
 pub use scene::{Scene, global_number, is_local_name, offset_of, pointer, scalar_of};
+pub use tops::top_facts;
 pub use values::{BodyValues, values_of};
