@@ -5,6 +5,7 @@ pub mod Taken
 pub mod Items
 pub mod Solved
 pub mod Points
+pub mod ByChanges
 pub mod Always
 pub mod Written
 pub mod Refined

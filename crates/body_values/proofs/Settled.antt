@@ -108,17 +108,13 @@ each_of : (P : Lifted (List AbsVal) → Type 0) (xs : List (Lifted (List AbsVal)
 each_of P [] d h = tt
 each_of P (x ∷ xs) d h = (h 0 (omega arith), each_of P xs (λ n. d (suc n)) (λ n l. h (suc n) (omega (arith, l))))
 
-pub begins_fit : (s : Scene) (blocks : List Block) (e : Lifted (List AbsVal)) (xs ys : List (Lifted (List AbsVal))) → Carried s → AreBegins (body_in s) blocks e xs → ys ≡ xs → Each (FitsIn s) ys
-begins_fit s blocks e xs ys c h same =
-    subst (Each (FitsIn s)) (sym same)
-    (each_of (FitsIn s) xs (equations_of (body_in s) blocks e).start
-    (λ n l. fits_in s (value_at (equations_of (body_in s) blocks e) xs n) c (h.solves.fit n (subst (λ m. n < m) h.solves.one_each l))))
+pub begins_fit : (s : Scene) (blocks : List Block) (e : Lifted (List AbsVal)) (xs : List (Lifted (List AbsVal))) → Carried s → AreBegins (body_in s) blocks e xs → Each (FitsIn s) xs
+begins_fit s blocks e xs c h =
+    each_of (FitsIn s) xs (equations_of (body_in s) blocks e).start
+    (λ n l. fits_in s (value_at (equations_of (body_in s) blocks e) xs n) c (h.solves.fit n (subst (λ m. n < m) h.solves.one_each l)))
 
-pub one_a_block : (B : Body) (blocks : List Block) (e : Lifted (List AbsVal)) (xs ys : List (Lifted (List AbsVal))) → AreBegins B blocks e xs → ys ≡ xs → length ys ≡ length blocks
-one_a_block B blocks e xs ys h same = ap length same ∙ h.solves.one_each
-
-pub rows_are : (B : Body) (blocks : List Block) (e : Lifted (List AbsVal)) (xs ys : List (Lifted (List AbsVal))) (rows : List (List (Lifted (List AbsVal)))) → AreBegins B blocks e xs → ys ≡ xs → rows ≡ block_rows B 0 blocks ys → AreRows B blocks e rows
-rows_are B blocks e xs ys rows h same are = record { begins = xs; least = h; are = are ∙ ap (block_rows B 0 blocks) same }
+pub rows_are : (B : Body) (blocks : List Block) (e : Lifted (List AbsVal)) (xs : List (Lifted (List AbsVal))) (rows : List (List (Lifted (List AbsVal)))) → AreBegins B blocks e xs → rows ≡ block_rows B 0 blocks xs → AreRows B blocks e rows
+rows_are B blocks e xs rows h are = record { begins = xs; least = h; are = are }
 
 -- ---- the rows
 

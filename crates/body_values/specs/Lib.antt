@@ -9,6 +9,7 @@ pub mod Scenes
 pub mod Fitting
 pub mod Ready
 pub mod PointRows
+pub mod Changed
 pub mod Found
 pub mod Setting
 pub mod Examples

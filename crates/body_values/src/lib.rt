@@ -1,6 +1,7 @@
 //! The values of registers at each point of a function.
 #![tactic(auto)]
 
+mod block_values;
 mod branches;
 mod branching;
 mod changes;
@@ -18,6 +19,7 @@ mod tops;
 mod transfer;
 mod values;
 
+pub use block_values::PointRow;
 pub use branches::Branch;
 pub use branching::branches_of;
 pub use changes::{is_slot, target};

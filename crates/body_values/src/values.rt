@@ -1,23 +1,23 @@
 //! The values of a function's registers at each of its points.
 
-ghost use Rattle.std.specs.Prelude.{◌≡◌, ◌<◌, ◌^◌, ◌++◌, length, true, IfOk};
+ghost use Rattle.std.specs.Prelude.{◌≡◌, ◌+◌, ◌<◌, ◌^◌, ◌++◌, length, true, IfOk, OnOk, OnErr};
 ghost use Rattle.std.specs.Option.{option_copied};
 ghost use Rattle.gimple_core.specs.Size.{size_of_program};
 ghost use Rattle.value_domain.specs.Thresholds.{thresholds_list};
 ghost use Rattle.body_values.specs.Fitting.{file_by};
 ghost use Rattle.body_values.specs.Flow.{branches_of};
-ghost use Rattle.body_values.specs.Found.{OfFunction, AreFound, found_at, found_row, row_of, value_of};
+ghost use Rattle.body_values.specs.Found.{OfFunction, AreFound, found_at, found_row, value_of};
 ghost use Rattle.body_values.specs.FoundWhere.{is_reached, reached_at};
 ghost use Rattle.body_values.specs.Ready.{Carried, AreFew};
 ghost use Rattle.body_values.specs.Scenes.{body_in};
 ghost use Rattle.body_values.specs.Setting.{IsGiven, IsSceneOf, AreBegins, AreRows, WereFound};
 ghost use Rattle.body_values.specs.System.{FactsFit};
 
+use crate::block_values::{BlockValues, PointRow};
 use crate::branching::branches_of;
 use crate::entry::{entry_row, registers_of};
 use crate::facts::Facts;
 use crate::flow::ValueFlow;
-use crate::point_rows::PointRows;
 use crate::scene::Scene;
 use fix_engine::{Lifted, Rows, Solver};
 use gimple_core::{Block, Checked, Function, Listed, OutOfMemory, Params, Point, Program, Text};
@@ -26,13 +26,14 @@ use std::alloc::Global;
 use std::marker::Model;
 use value_domain::{AbsVal, Thresholds, thresholds_of};
 
-/// The values of a function's registers at each of its points, and the thresholds that they were made with.
+/// The values of a function's registers at each of its points, and the thresholds that they were made with. They take
+/// the memory of one row a block and one value a statement; an answer goes through the statements before its point.
 #[derive(Drop)]
 pub struct BodyValues {
     function: u32,
     registers: RegisterTable,
     limits: Thresholds,
-    rows: Listed<PointRows>,
+    rows: Listed<BlockValues>,
 }
 
 impl Model for BodyValues {
@@ -43,48 +44,46 @@ impl Model for BodyValues {
     ghost view = { λ v. record { function = v.function; registers = v.registers; limits = v.limits; rows = v.rows } };
 }
 
-fn value_of(values: &Lifted<Rows<AbsVal>>, place: usize) -> Option<&AbsVal>
-    ensures { option_copied result ≡ value_of place values.now }
-{
-    match values {
-        Lifted::NotReached => None,
-        Lifted::Reached(row) => row.as_slice().get(place),
-    }
-}
-
-fn value_at(rows: &Listed<PointRows>, point: Point, place: usize) -> Option<&AbsVal>
+fn value_at(rows: &Listed<BlockValues>, point: Point, place: usize) -> Option<&AbsVal>
     ensures { option_copied result ≡ value_of place (found_row rows.now point.block point.index) }
 {
-    let Some(row) = rows.get(point.block as usize) else {
-        return None;
-    };
-    let Some(values) = row.get(point.index as usize) else {
-        return None;
-    };
-    value_of(values, place)
-}
-
-fn row_at(rows: &Listed<PointRows>, block: u32, index: u32) -> Option<&[AbsVal]>
-    ensures { option_copied result ≡ row_of (found_row rows.now block index) }
-{
-    let Some(rows) = rows.get(block as usize) else {
-        return None;
-    };
-    match rows.get(index as usize) {
-        Some(Lifted::Reached(row)) => Some(row.as_slice()),
-        _ => None,
+    match rows.get(point.block as usize) {
+        Some(block) => block.at(point.index as usize, place),
+        None => None,
     }
 }
 
-fn reaches(rows: &Listed<PointRows>, point: Point) -> bool
+fn reaches(rows: &Listed<BlockValues>, point: Point) -> bool
     ensures { result ≡ is_reached (found_row rows.now point.block point.index) }
 {
-    let Some(row) = rows.get(point.block as usize) else {
-        return false;
-    };
-    match row.get(point.index as usize) {
-        Some(Lifted::Reached(_)) => true,
-        _ => false,
+    match rows.get(point.block as usize) {
+        Some(block) => block.reached(point.index as usize),
+        None => false,
+    }
+}
+
+fn begin_of(rows: &Listed<BlockValues>, block: u32) -> Result<PointRow, OutOfMemory>
+    ensures { IfOk result (λ row. row ≡ found_row rows.now block 0) }
+{
+    match rows.get(block as usize) {
+        Some(block) => block.begin(),
+        None => Ok(Lifted::NotReached),
+    }
+}
+
+fn pass(
+    rows: &Listed<BlockValues>,
+    block: u32,
+    index: u32,
+    row: &mut PointRow,
+) -> Result<(), OutOfMemory>
+    requires { row.old ≡ found_row rows.now block index }
+    ensures ok { OnOk result (row.new ≡ found_row rows.now block (index + 1)) }
+    ensures err { OnErr result (row.new ≡ row.old) }
+{
+    match rows.get(block as usize) {
+        Some(block) => block.pass(index as usize, row),
+        None => Ok(()),
     }
 }
 
@@ -107,12 +106,23 @@ impl BodyValues {
         point.function == self.function && reaches(&self.rows, point)
     }
 
-    /// The values of all registers at a point of the function, the formals first, by the numbers of its block and of the
-    /// index there. None exactly where the point is not reached.
-    pub fn row(&self, block: u32, index: u32) -> Option<&[AbsVal]>
-        ensures { option_copied result ≡ row_of (found_row self.now.rows block index) }
+    /// The values of all registers at the begin of a block, by its number. A block that the function does not have is not
+    /// reached. With `pass` they go through the block, so that one row serves all its points. Err is want of memory.
+    pub fn begin(&self, block: u32) -> Result<PointRow, OutOfMemory>
+        ensures { IfOk result (λ row. row ≡ found_row self.now.rows block 0) }
     {
-        row_at(&self.rows, block, index)
+        begin_of(&self.rows, block)
+    }
+
+    /// Makes the values of all registers at a point of the function those at the next index of its block, by the numbers
+    /// of the block and of the index. Behind the end of a block no index is reached. After Err, which is want of memory,
+    /// they are unchanged.
+    pub fn pass(&self, block: u32, index: u32, row: &mut PointRow) -> Result<(), OutOfMemory>
+        requires { row.old ≡ found_row self.now.rows block index }
+        ensures ok { OnOk result (row.new ≡ found_row self.now.rows block (index + 1)) }
+        ensures err { OnErr result (row.new ≡ row.old) }
+    {
+        pass(&self.rows, block, index, row)
     }
 
     /// The registers of the function, the formals first.
@@ -162,20 +172,20 @@ fn begins<'a, S: Solver>(
 }
 
 /// The values at each index of each block.
-#[tactic(auto, using(crate::specs::Ready::ready_of, crate::proofs::Settled::fewer, crate::proofs::Settled::one_a_block, crate::proofs::Settled::rows_are))]
+#[tactic(auto, using(crate::specs::Ready::ready_of, crate::proofs::Settled::fewer, crate::proofs::Settled::rows_are))]
 fn rows_of<'a, S: Solver>(
     scene: Scene<'a>,
     blocks: &'a [Block],
     entry: &'a Lifted<Rows<AbsVal>>,
     solver: &mut S,
-) -> Result<Listed<PointRows>, OutOfMemory>
+) -> Result<Listed<BlockValues>, OutOfMemory>
     requires carried { Carried scene }
     requires few { AreFew blocks.now (length (branches_of blocks.now)) }
     requires entry { file_by scene.limits.now.size scene.limits.now.ends (length scene.registers.now) entry.now ≡ true }
     ensures { IfOk result (AreRows (body_in scene.entry) blocks.now entry.now) }
 {
     let begins = begins(scene, blocks, entry, solver)?;
-    let rows = scene.rows(blocks, begins.as_slice())?;
+    let rows = scene.rows(blocks, begins)?;
     Ok(rows)
 }
 
