@@ -1,5 +1,5 @@
 -- What the code has of a point, and blocks one after the other.
-use Rattle.std.proofs.Common.{◌≡◌, ℕ, zero, suc, ◌+◌, ◌<◌, true, List, [], ◌∷◌, ◌++◌, length, append_assoc, drop, get_or, refl, sym, ◌∙◌, ap, subst, arith, Some, None, Result, Ok, IfOk, slice_get}
+use Rattle.std.proofs.Common.{◌≡◌, ℕ, zero, suc, ◌+◌, ◌<◌, true, List, [], ◌∷◌, ◌++◌, length, append_assoc, drop, get_or, refl, sym, ◌∙◌, ap, subst, arith, Some, Ok, slice_get}
 use Rattle.std.proofs.lemmas.List.{drop_more}
 use Rattle.std.proofs.lemmas.Option.{slice_get_read}
 use Rattle.gimple_ir.specs.declared.statement.Stmt.{Stmt}
@@ -11,47 +11,24 @@ use Rattle.gimple_core.specs.Statements as s
 use Rattle.gimple_claims.specs.Checks.{StmtsPass, BlockPasses, BlocksPass}
 use Rattle.gimple_claims.specs.Kept.{new_body, new_blocks}
 use Rattle.fix_engine.specs.declared.lifted.Lifted.{Lifted}
-use Rattle.fix_engine.specs.declared.lifted.Lifted.TheVariants.{NotReached, Reached}
 use Rattle.value_domain.specs.declared.abs_val.AbsVal.{AbsVal}
-use Rattle.body_values.specs.Found.{Found, found_row, row_of}
+use Rattle.body_values.specs.Found.{Found, found_row}
 use Rattle.body_values.specs.Flow.{body_at}
 use Rattle.body_fold.specs.declared.folder.Folder.{Folder}
-use Rattle.body_fold.specs.Fold.{folded_stmt, folded_end, stmt_at, end_at}
+use Rattle.body_fold.specs.Fold.{stmt_at, end_at}
 use Rattle.body_fold.specs.Folders.{folding_in}
 use Rattle.body_fold.specs.Blocks.{stmt_in, end_in}
-
--- ---- rows
-
-pub is_row : (x : Lifted (List AbsVal)) (row : List AbsVal) → Some row ≡ row_of x → x ≡ Reached row
-is_row NotReached row e = cc
-is_row (Reached r) row e = let same : r ≡ row = cc in ap Reached same
-
-pub no_row : (x : Lifted (List AbsVal)) → None ≡ row_of x → x ≡ NotReached
-no_row NotReached e = refl
-no_row (Reached row) e = cc
 
 -- ---- points
 
 module _ (s : Folder) (t : Found) where
-  pub stmt_reached : (k i : ℕ) (x : Stmt) (row : List AbsVal) → Some row ≡ row_of (found_row t.rows k i) → folded_stmt (folding_in s) k i row x ≡ stmt_in s t k i x
+  pub stmt_is : (k i : ℕ) (x y : Stmt) (row : Lifted (List AbsVal)) → row ≡ found_row t.rows k i → y ≡ stmt_at (folding_in s) k i x row → y ≡ stmt_in s t k i x
   unfolding stmt_in
-  stmt_reached k i x row e = ap (stmt_at (folding_in s) k i x) (sym (is_row (found_row t.rows k i) row e))
+  stmt_is k i x y row e h = h ∙ ap (stmt_at (folding_in s) k i x) e
 
-  pub stmt_stays : (k i : ℕ) (x : Stmt) → None ≡ row_of (found_row t.rows k i) → x ≡ stmt_in s t k i x
-  unfolding stmt_in
-  stmt_stays k i x e = ap (stmt_at (folding_in s) k i x) (sym (no_row (found_row t.rows k i) e))
-
-  pub end_reached : (k i : ℕ) (e : End) (row : List AbsVal) → length (body_at (slice_get s.function.now.blocks k)) ≡ i → Some row ≡ row_of (found_row t.rows k i) → folded_end (folding_in s) row e ≡ end_in s t k e
+  pub end_is : (k : ℕ) (b : Block) (x y : End) (row : Lifted (List AbsVal)) → slice_get s.function.now.blocks k ≡ Some b → row ≡ found_row t.rows k (length b.body) → y ≡ end_at (folding_in s) x row → y ≡ end_in s t k x
   unfolding end_in
-  end_reached k i e row there h = ap (end_at (folding_in s) e) (sym (ap (found_row t.rows k) there ∙ is_row (found_row t.rows k i) row h))
-
-  pub end_stays : (k i : ℕ) (e : End) → length (body_at (slice_get s.function.now.blocks k)) ≡ i → None ≡ row_of (found_row t.rows k i) → e ≡ end_in s t k e
-  unfolding end_in
-  end_stays k i e there h = ap (end_at (folding_in s) e) (sym (ap (found_row t.rows k) there ∙ no_row (found_row t.rows k i) h))
-
-  -- the same of a copy, which may want memory
-  pub stmt_copied : {E : Type 0} (r : Result Stmt E) (k i : ℕ) (x : Stmt) → None ≡ row_of (found_row t.rows k i) → IfOk r (λ y. y ≡ x) → IfOk r (λ y. y ≡ stmt_in s t k i x)
-  stmt_copied r k i x e h = subst (λ z. IfOk r (λ y. y ≡ z)) (stmt_stays k i x e) h
+  end_is k b x y row there e h = h ∙ ap (end_at (folding_in s) x) (e ∙ ap (λ o. found_row t.rows k (length (body_at o))) (sym there))
 
 -- ---- checks
 

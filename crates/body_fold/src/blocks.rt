@@ -1,71 +1,76 @@
 //! Blocks with known constants put in.
 
-ghost use Rattle.std.specs.Prelude.{◌≡◌, ◌<◌, ◌^◌, length, slice_get, Some, IfOk, Ok};
+ghost use Rattle.std.specs.Prelude.{◌≡◌, ◌<◌, ◌^◌, length, slice_get, Some, IfOk, OnOk, Ok};
 ghost use Rattle.gimple_core.specs.Statements as check;
 ghost use Rattle.gimple_claims.specs.Checks.{StmtsPass, BlockPasses, BlocksPass};
 ghost use Rattle.gimple_claims.specs.Kept.{new_body};
-ghost use Rattle.body_values.specs.Flow.{body_at};
+ghost use Rattle.body_values.specs.Found.{found_row};
 ghost use Rattle.body_values.specs.Ready.{AreFew};
+ghost use Rattle.body_values.specs.Scenes.{FitsIn};
 ghost use Rattle.body_fold.specs.Blocks.{PointsFit, stmt_in, end_in, block_in, blocks_in};
+ghost use Rattle.body_fold.specs.Fold.{stmt_at, end_at};
 ghost use Rattle.body_fold.specs.Folders.{folding_in, IsFolder};
 
 use crate::folder::Folder;
-use body_values::BodyValues;
+use body_values::{BodyValues, PointRow};
+use fix_engine::Lifted;
 use gimple_core::{Block, End, Exact, Listed, OutOfMemory, Stmt, Stmts};
 
 impl<'a> Folder<'a> {
-    /// The statement at a point, by the numbers of its block and of the index there. At a point that is not reached it stays.
-    #[tactic(auto, using(crate::proofs::AtPoints::stmt_copied))]
+    /// The statement at a point, by the numbers of its block and of the index there, and by the values there. At a point
+    /// that is not reached it stays.
     fn statement_at(
         &self,
-        values: &BodyValues,
         block: u32,
         index: u32,
+        row: &PointRow,
         statement: &Stmt,
     ) -> Result<Stmt, OutOfMemory>
         requires folder { IsFolder self.now }
-        requires fit { PointsFit self.now.scene values.now }
+        requires fit { FitsIn self.now.scene row.now }
         requires passes { check.statement (folding_in self.now).env (folding_in self.now).names statement.now ≡ Ok tt }
-        ensures { IfOk result (λ x. x ≡ stmt_in self.now values.now block index statement.now) }
+        ensures { IfOk result (λ x. x ≡ stmt_at (folding_in self.now) block index statement.now row.now) }
     {
-        match values.row(block, index) {
-            Some(row) => self.statement(block, index, row, statement),
-            None => statement.copy(),
+        match row {
+            Lifted::Reached(row) => self.statement(block, index, row.as_slice(), statement),
+            Lifted::NotReached => statement.copy(),
         }
     }
 
-    /// The end of a block, whose index there is one behind the statements. Where it is not reached it stays.
-    fn end_at(
+    /// The end of a block, by the values behind its statements. Where it is not reached it stays.
+    fn end_at(&self, row: &PointRow, end: &End) -> Result<End, OutOfMemory>
+        requires folder { IsFolder self.now }
+        requires fit { FitsIn self.now.scene row.now }
+        requires passes { check.ending (folding_in self.now).env end.now ≡ Ok tt }
+        ensures { IfOk result (λ e. e ≡ end_at (folding_in self.now) end.now row.now) }
+    {
+        match row {
+            Lifted::Reached(row) => self.end(row.as_slice(), end),
+            Lifted::NotReached => end.copy(),
+        }
+    }
+
+    /// The statements of a block. The values at its begin become those at its end.
+    fn body(
         &self,
         values: &BodyValues,
         block: u32,
-        index: u32,
-        end: &End,
-    ) -> Result<End, OutOfMemory>
-        requires folder { IsFolder self.now }
-        requires fit { PointsFit self.now.scene values.now }
-        requires there { length (body_at (slice_get self.now.function.now.blocks block)) ≡ index }
-        requires passes { check.ending (folding_in self.now).env end.now ≡ Ok tt }
-        ensures { IfOk result (λ e. e ≡ end_in self.now values.now block end.now) }
-    {
-        match values.row(block, index) {
-            Some(row) => self.end(row, end),
-            None => end.copy(),
-        }
-    }
-
-    /// The statements of a block.
-    fn body(&self, values: &BodyValues, block: u32, body: &[Stmt]) -> Result<Stmts, OutOfMemory>
+        body: &[Stmt],
+        row: &mut PointRow,
+    ) -> Result<Stmts, OutOfMemory>
         requires folder { IsFolder self.now }
         requires fit { PointsFit self.now.scene values.now }
         requires few { length body.now < 2 ^ 32 }
         requires passes { StmtsPass (folding_in self.now).env (folding_in self.now).names body.now }
-        ensures { IfOk result (λ xs. xs ≡ new_body (stmt_in self.now values.now) block 0 body.now) }
+        requires row { row.old ≡ found_row values.now.rows block 0 }
+        ensures body { IfOk result (λ xs. xs ≡ new_body (stmt_in self.now values.now) block 0 body.now) }
+        ensures row { OnOk result (row.new ≡ found_row values.now.rows block (length body.now)) }
     {
         let mut statements = Listed::new(self.scene.alloc);
         for index in 0..body.len() {
-            let statement = self.statement_at(values, block, index as u32, &body[index])?;
+            let statement = self.statement_at(block, index as u32, row, &body[index])?;
             statements.push(statement)?;
+            values.pass(block, index as u32, row)?;
         }
         Ok(statements)
     }
@@ -79,8 +84,9 @@ impl<'a> Folder<'a> {
         requires passes { BlockPasses (folding_in self.now).env (folding_in self.now).names block.now }
         ensures { IfOk result (λ b. b ≡ block_in self.now values.now number block.now) }
     {
-        let body = self.body(values, number, block.body.as_slice())?;
-        let end = self.end_at(values, number, block.body.len() as u32, &block.end)?;
+        let mut row = values.begin(number)?;
+        let body = self.body(values, number, block.body.as_slice(), &mut row)?;
+        let end = self.end_at(&row, &block.end)?;
         Ok(Block {
             label: block.label,
             body,

@@ -1,10 +1,7 @@
 -- What changes make of the values of registers.
-use Rattle.std.proofs.Common.{◌≡◌, ℕ, zero, suc, ◌+◌, ◌<◌, ◌≤◌, ◌^◌, ◌==◌, Bool, true, false, not, cond, List, [], ◌∷◌, ◌++◌, take, drop, length, get_or, Option, Some, None, Result, Ok, Err, IfOk, OnOk, slice_get, slice_set, ◌⊎◌, inl, inr, refl, sym, ◌∙◌, ap, subst, arith, add-one, append-nil, length-append}
-use Rattle.std.specs.List.{list_any}
+use Rattle.std.proofs.Common.{◌≡◌, ℕ, zero, suc, ◌+◌, ◌<◌, ◌≤◌, ◌^◌, ◌==◌, Bool, true, false, cond, List, [], ◌∷◌, ◌++◌, take, drop, length, get_or, Option, Some, None, Result, Ok, Err, IfOk, OnOk, slice_get, slice_set, ◌⊎◌, inl, inr, refl, sym, ◌∙◌, ap, subst, arith, add-one, append-nil, length-append}
 use Rattle.std.proofs.lemmas.Bool.{cases_Bool, eqb-true, eq-eqb}
 use Rattle.std.proofs.lemmas.List.{drop_more, drop_all, append_assoc}
-use Rattle.std.proofs.lemmas.Option.{slice_get_within, slice_get_past}
-use Rattle.gimple_ir.specs.declared.declarations.Register.{Register}
 use Rattle.gimple_ir.specs.declared.statement.Stmt.{Stmt}
 use Rattle.gimple_ir.specs.declared.block.Block.{Block}
 use Rattle.fix_engine.specs.Rows.{Each}
@@ -15,8 +12,8 @@ use Rattle.value_domain.specs.Values.{is_none_val}
 use Rattle.body_values.specs.declared.scene.Scene.{Scene}
 use Rattle.body_values.specs.declared.block_values.Change.{Change}
 use Rattle.body_values.specs.declared.block_values.Change.TheVariants.{Nothing, Sets, Ends}
-use Rattle.body_values.specs.Bodies.{Body, place_of, is_abort, target_of, register_scalar, result_value, put_value, after_target, after_stmt, where_reached}
-use Rattle.body_values.specs.Changed.{changed, rows_by, value_after, value_through, is_end, reached_through, set_to, change_of}
+use Rattle.body_values.specs.Bodies.{Body, place_of, is_abort, target_of, register_scalar, result_value, after_target, after_stmt, where_reached}
+use Rattle.body_values.specs.Changed.{changed, rows_by, value_after, value_through, reached_through, set_to, change_of}
 use Rattle.body_values.specs.Flow.{value_or}
 use Rattle.body_values.specs.Found.{value_of}
 use Rattle.body_values.specs.FoundWhere.{is_reached}

@@ -35,11 +35,6 @@ rows_or (Some rows) = rows
 abbrev pub found_row : List (List (Lifted (List AbsVal))) → ℕ → ℕ → Lifted (List AbsVal)
 found_row rows k i = value_or (slice_get (rows_or (slice_get rows k)) i)
 
--- the values of registers at a point that is reached
-abbrev pub row_of : Lifted (List AbsVal) → Option (List AbsVal)
-row_of NotReached = None
-row_of (Reached row) = Some row
-
 -- the value of a register among them
 abbrev pub value_of : ℕ → Lifted (List AbsVal) → Option AbsVal
 value_of place NotReached = None
