@@ -6,6 +6,9 @@ use Rattle.words.specs.declared.options.SourceName.{SourceName}
 use Rattle.words.specs.Words.{bytes_of}
 use Rattle.gimple_ir.specs.declared.program.Program.{Program}
 use Rattle.gimple_core.specs.Sealed.{Sealed}
+use Rattle.gimple_text.specs.declared.fault.TextFault.{TextFault}
+use Rattle.gimple_text.specs.declared.fault.TextFault.TheVariants.{BadByte, BadToken, EarlyEnd, Memory as TextMemory}
+use Rattle.gimple_text.specs.Parse.{TextFaultOf}
 use Rattle.gimple_text.proofs.Laws.{spelled_spellable}
 use Rattle.ipa_driver.proofs.SizeLaws.{countable}
 use Rattle.ipa_driver.proofs.LocalLaws.{few_locals}
@@ -14,7 +17,7 @@ use Rattle.ipa_driver.specs.declared.finish.Fault.{Fault}
 use Rattle.ipa_driver.specs.declared.finish.Fault.TheVariants.{Usage, Read, Long, Text, Types, Write, Memory}
 use Rattle.ipa_driver.specs.Stores.{IsCut}
 use Rattle.ipa_driver.specs.Verdict.{LIMIT, Verdict, TooLong, BadText, BadTypes, Good, IsVerdict}
-use Rattle.ipa_driver.specs.Answers.{input_of, HasVerdict, Refused, IsGoodSource, Answer, IsComplete, TellsOne, WithinRoom, NoneRose, MadeOf}
+use Rattle.ipa_driver.specs.Answers.{input_of, HasVerdict, IsOfText, Refused, IsGoodSource, Answer, IsComplete, TellsOne, WithinRoom, NoneRose, MadeOf}
 use Rattle.ipa_driver.specs.Work.{LoadsText, Judges, IsLoaded, WorkKeeps, WorkSure, MessageTold}
 use Rattle.ipa_driver.proofs.VerdictLaws.{one}
 
@@ -28,6 +31,12 @@ module _ (P : List ℕ → Type 0) (text : List ℕ) (h : P text) where
   fetched None name e = e
   fetched (Some m) name e = some_fetched (at_name m name) e
 
+of_text : (bytes : List ℕ) (f : TextFault) → TextFaultOf bytes f → IsOfText f
+of_text bytes (BadByte spot) h = tt
+of_text bytes (BadToken spot) h = tt
+of_text bytes (EarlyEnd spot) h = tt
+of_text bytes (TextMemory want) h = h
+
 -- what was judged of the text is the verdict on the source
 pub judged : (words : List (List ℕ)) (source : SourceName) (old new : Meaning) (text : List ℕ) (r : Result Sealed Fault) → LoadsText (bytes_of words (input_of source)) old new text → Judges text r → MatchResult r (IsLoaded words source old new) (Refused words source old new)
 judged words source old new text (Ok checked) l j = record {
@@ -37,7 +46,7 @@ judged words source old new text (Ok checked) l j = record {
   locals = few_locals text checked.program j.spelled j.within;
   read = l.read;
 }
-judged words source old new text (Err (Text f)) l j = fetched (λ bytes. IsVerdict bytes (BadText f)) text j old.sources (bytes_of words (input_of source)) l.source
+judged words source old new text (Err (Text f)) l j = (of_text text f j.fault, fetched (λ bytes. IsVerdict bytes (BadText f)) text j old.sources (bytes_of words (input_of source)) l.source)
 judged words source old new text (Err (Types f)) l j = fetched (λ bytes. IsVerdict bytes (BadTypes f)) text j old.sources (bytes_of words (input_of source)) l.source
 judged words source old new text (Err Memory) l j = tt
 judged words source old new text (Err (Usage f)) l j = j
@@ -71,7 +80,7 @@ complete words input Makes old new (Some Read) a g read write =
 complete words input Makes old new (Some Long) a g read write =
     let e = good TooLong old.sources words input a.0.1 g in let x : TooLong ≡ Good e.0 = e.1 in absurd cc
 complete words input Makes old new (Some (Text f)) a g read write =
-    let e = good (BadText f) old.sources words input a.0 g in let x : BadText f ≡ Good e.0 = e.1 in absurd cc
+    let e = good (BadText f) old.sources words input a.0.1 g in let x : BadText f ≡ Good e.0 = e.1 in absurd cc
 complete words input Makes old new (Some (Types f)) a g read write =
     let e = good (BadTypes f) old.sources words input a.0 g in let x : BadTypes f ≡ Good e.0 = e.1 in absurd cc
 complete words input Makes old new (Some (Write name)) a g read write = absurd (write a.rose)
@@ -81,11 +90,11 @@ complete words input Makes old new (Some Memory) a g read write = inr refl
 module _ (words : List (List ℕ)) (input : SourceName) (Makes : MadeOf) (old mid new : Meaning)
     (stores : new.stores ≡ mid.stores) (read : new.read_faults ≡ mid.read_faults) (write : new.write_faults ≡ mid.write_faults) (taken : new.taken ≡ mid.taken) where
   pub answer_after : (fault : Fault) → Answer words input Makes old mid (Some fault) → Answer words input Makes old new (Some fault)
-  answer_after (Usage f) a = (a.0, stores ∙ a.1)
-  answer_after Read a = (subst (λ n. Rose old.read_faults n ⊎ LacksSource old.sources (bytes_of words (input_of input))) (sym read) a.0, stores ∙ a.1)
-  answer_after Long a = ((subst (λ n. RoseBy (LIMIT + 1) old.taken n) (sym taken) a.0.0, a.0.1), stores ∙ a.1)
-  answer_after (Text f) a = (a.0, stores ∙ a.1)
-  answer_after (Types f) a = (a.0, stores ∙ a.1)
+  answer_after (Usage f) a = (a.0, stores ∙ a.1, write ∙ a.2)
+  answer_after Read a = (subst (λ n. Rose old.read_faults n ⊎ LacksSource old.sources (bytes_of words (input_of input))) (sym read) a.0, stores ∙ a.1, write ∙ a.2)
+  answer_after Long a = ((subst (λ n. RoseBy (LIMIT + 1) old.taken n) (sym taken) a.0.0, a.0.1), stores ∙ a.1, write ∙ a.2)
+  answer_after (Text f) a = (a.0, stores ∙ a.1, write ∙ a.2)
+  answer_after (Types f) a = (a.0, stores ∙ a.1, write ∙ a.2)
   answer_after (Write name) a = record {
     source = a.source;
     outputs = a.outputs;
@@ -94,7 +103,7 @@ module _ (words : List (List ℕ)) (input : SourceName) (Makes : MadeOf) (old mi
     rose = subst (λ n. Rose old.write_faults n) (sym write) a.rose;
     cut = subst (λ (st : Option Contents). IsCut words a.outputs name old.stores st) (sym stores) a.cut;
   }
-  answer_after Memory a = (a.0, stores ∙ a.1)
+  answer_after Memory a = (a.0, stores ∙ a.1, write ∙ a.2)
 
 -- the message after the work
 module _ (tool : Tool) (words : List (List ℕ)) (source : SourceName) (Makes : MadeOf) (fault : Fault) (input : List ℕ) (Fits : ℕ → Type 0) (old mid new : Meaning)

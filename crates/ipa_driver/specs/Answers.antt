@@ -9,6 +9,8 @@ use Rattle.words.specs.declared.options.Options.{Options}
 use Rattle.words.specs.declared.options.UsageFault.{UsageFault}
 use Rattle.words.specs.Words.{bytes_of, options_of}
 use Rattle.gimple_ir.specs.declared.program.Program.{Program}
+use Rattle.gimple_text.specs.declared.fault.TextFault.{TextFault}
+use Rattle.gimple_text.specs.declared.fault.TextFault.TheVariants.{BadByte, BadToken, EarlyEnd, Memory as TextMemory}
 use Rattle.ipa_driver.specs.declared.finish.Fault.{Fault}
 use Rattle.ipa_driver.specs.declared.finish.Fault.TheVariants.{Usage, Read, Long, Text, Types, Write, Memory}
 use Rattle.ipa_driver.specs.declared.outputs.Output.{Output}
@@ -44,6 +46,13 @@ OnInput sources words source P = OnSource sources (bytes_of words (input_of sour
 abbrev pub HasVerdict : Option Contents → List (List ℕ) → SourceName → Verdict → Type 0
 HasVerdict sources words source v = OnInput sources words source (λ bytes. IsVerdict bytes v)
 
+-- a fault that a text can have, which is never want of memory
+abbrev pub IsOfText : TextFault → Type 0
+IsOfText (BadByte spot) = ⊤
+IsOfText (BadToken spot) = ⊤
+IsOfText (EarlyEnd spot) = ⊤
+IsOfText (TextMemory want) = ⊥
+
 -- the rows of the table of answers that come before any store
 abbrev pub Refused : List (List ℕ) → SourceName → Meaning → Meaning → Fault → Type 0
 Refused words source old new (Usage f) = ⊥
@@ -51,7 +60,7 @@ Refused words source old new Read =
     Rose old.read_faults new.read_faults ⊎ LacksSource old.sources (bytes_of words (input_of source))
 Refused words source old new Long =
     RoseBy (LIMIT + 1) old.taken new.taken × HasVerdict old.sources words source TooLong
-Refused words source old new (Text f) = HasVerdict old.sources words source (BadText f)
+Refused words source old new (Text f) = IsOfText f × HasVerdict old.sources words source (BadText f)
 Refused words source old new (Types f) = HasVerdict old.sources words source (BadTypes f)
 Refused words source old new (Write name) = ⊥
 Refused words source old new Memory = ⊤
@@ -81,11 +90,11 @@ pub record IsNotWritten (words : List (List ℕ)) (input : SourceName) (Makes : 
   pub rose : Rose old.write_faults new.write_faults
   pub cut : IsCut words outputs name old.stores new.stores
 
--- the table of answers, for lawful words
+-- The table of answers, for lawful words. With an answer that comes before any store the stores stay, and no store has failed.
 abbrev pub Answer : List (List ℕ) → SourceName → MadeOf → Meaning → Meaning → Option Fault → Type 0
 Answer words input Makes old new None = IsDone words input Makes old new
 Answer words input Makes old new (Some (Write name)) = IsNotWritten words input Makes old new name
-Answer words input Makes old new (Some f) = Refused words input old new f × (new.stores ≡ old.stores)
+Answer words input Makes old new (Some f) = Refused words input old new f × (new.stores ≡ old.stores) × (new.write_faults ≡ old.write_faults)
 
 -- Faulty words: this answer whatever memory there is, and nothing is fetched or stored.
 pub record IsMisused (f : UsageFault) (old new : Meaning) (answer : Option Fault) : Type 0 where
