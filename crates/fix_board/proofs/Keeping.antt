@@ -1,6 +1,6 @@
 -- Each event keeps the board's invariant.
 use Rattle.std.proofs.Common.{◌≡◌, ◌≢◌, ℕ, ◌+◌, ◌-◌, ◌<◌, ◌≤◌, ◌⊎◌, ◌||◌, ◌&&◌, ◌==◌, not, inl, inr, Bool, true, false, List, Option, Some, None, IsSomeAnd, IsTrue, nat_lt, length, replicate, set, get_or, refl, sym, eq-eqb, ◌∙◌, ap, subst, arith}
-use Rattle.std.proofs.lemmas.List.{get_or-set_same, get_or-set_other, get_or_read_under, get_or-replicate}
+use Rattle.std.proofs.lemmas.List.{get_or-set_same, get_or-set_other, get_or_read_under, get_or-replicate, set-set, set-get_or}
 use Rattle.std.proofs.Math.ListN.{length-set, length-replicate}
 use Rattle.fix_engine.specs.Lattice.{LatticeLaws}
 use Rattle.fix_engine.specs.Least.{Equations, FlowLaws, IsLeast, IsBetween, IsSatisfied, value_at}
@@ -9,7 +9,7 @@ use Rattle.fix_engine.proofs.Rising.{value_read, between_start, between_posted, 
 use Rattle.fix_engine.proofs.Pending.{pending_after, read_after_write}
 use Rattle.fix_engine.proofs.Work.{work_falls, one_if_or}
 use Rattle.fix_board.specs.Edges.{Marks, is_ready}
-use Rattle.fix_board.specs.Board.{State, is_dirty, times_out, dirt, IsKept, IsStart, IsBoard, AreTargets, AreHome, IsDone, MarksFrom, after_take, after_back, CanPost, Posts}
+use Rattle.fix_board.specs.Board.{State, is_dirty, times_out, dirt, IsKept, IsStart, IsNext, IsBoard, AreTargets, AreHome, IsDone, MarksFrom, after_take, after_back, CanPost, Posts}
 
 module _ {V : Type 0} {fits : List ℕ → V → Type 0} {height : List ℕ → ℕ} {rank : List ℕ → V → ℕ} {below : V → V → Bool} {joined : V → V → V}
     (lat : LatticeLaws fits height rank below joined) (k : List ℕ) (s : Equations V) (flow : FlowLaws (fits k) below s) where
@@ -160,6 +160,21 @@ module _ {V : Type 0} {fits : List ℕ → V → Type 0} {height : List ℕ → 
 ready_dirty : (dirty few : Bool) → (dirty && few) ≡ true → dirty ≡ true
 ready_dirty true few h = refl
 ready_dirty false few h = h
+
+-- an edge that was taken and given back leaves the board as it was
+pub back_undone : {V : Type 0} (fits : V → Type 0) (below : V → V → Bool) (o : Option (Equations V)) (b : State V) (e : ℕ)
+    → IsSomeAnd o (λ s. IsKept fits below s b) → IsNext b e → after_back (after_take b e) e ≡ b
+back_undone fits below None b e kept next = absurd kept
+back_undone fits below (Some s) b e kept next =
+    let n = times_out b e in
+    let room : e < length b.out = let h = next.is_edge in omega (arith, h, kept.dirty_each, kept.out_each) in
+    let was : is_dirty b e ≡ true = ready_dirty (is_dirty b e) (nat_lt n 4294967295) next.ready in
+    let one : get_or (set b.out e (n + 1)) e 0 ≡ n + 1 = get_or-set_same b.out e (n + 1) 0 room in
+    let less : get_or (set b.out e (n + 1)) e 0 - 1 ≡ n = omega (arith, one) in
+    let dirty_is : set (set b.dirty e false) e true ≡ b.dirty = set-set b.dirty e false true ∙ ap (set b.dirty e) (sym was) ∙ set-get_or b.dirty e false in
+    let out_is : set (set b.out e (n + 1)) e (get_or (set b.out e (n + 1)) e 0 - 1) ≡ b.out =
+    set-set b.out e (n + 1) (get_or (set b.out e (n + 1)) e 0 - 1) ∙ ap (set b.out e) less ∙ set-get_or b.out e 0 in
+    λ i. record { values = b.values; dirty = dirty_is i; out = out_is i }
 
 -- what holds of the value holds of it with what follows from it
 some_map_3 : {A : Type 0} (o : Option A) (P Q R S : A → Type 0) → IsSomeAnd o P → IsSomeAnd o Q → IsSomeAnd o R → ((x : A) → P x → Q x → R x → S x) → IsSomeAnd o S

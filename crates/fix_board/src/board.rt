@@ -134,24 +134,45 @@ impl<V: Lattice, K: System<V>> Board<V, K> {
     }
 }
 
+/// An edge that was taken, with a copy of its source's value. Nothing outside this file can take it apart and it is not `Drop`, so
+/// whoever has one ends it by `post_or_back` or `give_up`.
+pub(crate) struct Turn<V> {
+    edge: u32,
+    from: V,
+}
+
+impl<V: Lattice> Turn<V> {
+    /// The flow of the value along the edge.
+    pub(crate) fn flow<F: Flow<Value = V>>(&self, flow: &F) -> Result<V, OutOfMemory>
+        requires edge { self.now.edge < (F.equations flow.now).edges }
+        requires fits { V.fits (F.kind flow.now) self.now.from }
+        ensures { IfOk result (λ found. found ≡ (F.equations flow.now).flow self.now.edge self.now.from) }
+    {
+        flow.flow(self.edge, &self.from)
+    }
+}
+
 /// What a worker does in one critical section.
 impl<V: Lattice, K: System<V>> Board<V, K> {
-    /// An edge that was taken, and a copy of its source's value. After an `Err` the edge was taken and given back.
-    pub(crate) fn take_copy(&mut self) -> Result<Option<(u32, V)>, OutOfMemory>
-        ensures edge { IfOk result (λ taken. IfSome taken (λ t. IsSomeAnd K.equations (λ s. t.0 < s.edges))) }
-        ensures fits { IfOk result (λ taken. IfSome taken (λ t. V.fits K.kind t.1)) }
-        ensures taken { IfOk result (λ taken. IfSome taken (λ t. self.new ≡ after_take self.old t.0)) }
-        ensures next { IfOk result (λ taken. IfSome taken (λ t. IsNext self.old t.0)) }
-        ensures value { IfOk result (λ taken. IfSome taken (λ t. IsSomeAnd K.equations (λ s. t.1 ≡ value_at s self.old.values (s.source t.0)))) }
+    /// An edge that was taken, and a copy of its source's value. After an `Err` the edge was taken and given back, and the board is
+    /// as it was.
+    pub(crate) fn take_copy(&mut self) -> Result<Option<Turn<V>>, OutOfMemory>
+        ensures edge { IfOk result (λ taken. IfSome taken (λ t. IsSomeAnd K.equations (λ s. t.edge < s.edges))) }
+        ensures fits { IfOk result (λ taken. IfSome taken (λ t. V.fits K.kind t.from)) }
+        ensures taken { IfOk result (λ taken. IfSome taken (λ t. self.new ≡ after_take self.old t.edge)) }
+        ensures next { IfOk result (λ taken. IfSome taken (λ t. IsNext self.old t.edge)) }
+        ensures value { IfOk result (λ taken. IfSome taken (λ t. IsSomeAnd K.equations (λ s. t.from ≡ value_at s self.old.values (s.source t.edge)))) }
         ensures none { IfOk result (λ taken. IfNone taken (self.new ≡ self.old)) }
         ensures nothing { IfOk result (λ taken. IfNone taken ((d : ℕ) → d < length self.old.dirty → is_ready self.old.dirty self.old.out d ≡ false)) }
         ensures err { OnErr result ((e : ℕ) × IsNext self.old e × (self.new ≡ after_back (after_take self.old e) e)) }
+        ensures unchanged { OnErr result (self.new ≡ self.old) }
     {
+        self.known();
         let Some(edge) = self.take() else {
             return Ok(None);
         };
         match self.source_copy(edge) {
-            Ok(from) => Ok(Some((edge, from))),
+            Ok(from) => Ok(Some(Turn { edge, from })),
             Err(error) => {
                 self.give_back(edge);
                 Err(error)
@@ -161,24 +182,34 @@ impl<V: Lattice, K: System<V>> Board<V, K> {
 
     /// Posts what was found, or gives the edge back where it may not be posted or memory ran out. Nothing changes where the edge
     /// is not out.
-    pub(crate) fn post_or_back(&mut self, edge: u32, from: &V, found: V) -> Result<(), OutOfMemory>
-        requires edge { IsSomeAnd K.equations (λ s. edge < s.edges) }
-        requires fits { V.fits K.kind from.now }
-        requires found { IsSomeAnd K.equations (λ s. found ≡ s.flow edge from.now) }
-        ensures event { 0 < times_out self.old edge → IsSomeAnd K.equations (λ s. EndsTurn (V.fits K.kind) V.below V.joined s edge from.now self.old self.new) }
-        ensures posts { OnOk result (IsSomeAnd K.equations (λ s. CanPost (V.fits K.kind) V.below s self.old edge from.now) → IsSomeAnd K.equations (λ s. Posts V.below V.joined s self.old edge from.now self.new)) }
-        ensures err { OnErr result (self.new ≡ after_back self.old edge) }
-        ensures home { times_out self.old edge ≡ 0 → self.new ≡ self.old }
+    pub(crate) fn post_or_back(&mut self, turn: Turn<V>, found: V) -> Result<(), OutOfMemory>
+        requires edge { IsSomeAnd K.equations (λ s. turn.edge < s.edges) }
+        requires fits { V.fits K.kind turn.from }
+        requires found { IsSomeAnd K.equations (λ s. found ≡ s.flow turn.edge turn.from) }
+        ensures event { 0 < times_out self.old turn.edge → IsSomeAnd K.equations (λ s. EndsTurn (V.fits K.kind) V.below V.joined s turn.edge turn.from self.old self.new) }
+        ensures posts { OnOk result (IsSomeAnd K.equations (λ s. CanPost (V.fits K.kind) V.below s self.old turn.edge turn.from) → IsSomeAnd K.equations (λ s. Posts V.below V.joined s self.old turn.edge turn.from self.new)) }
+        ensures err { OnErr result (self.new ≡ after_back self.old turn.edge) }
+        ensures home { times_out self.old turn.edge ≡ 0 → self.new ≡ self.old }
     {
-        if self.may_post(edge, from) {
-            return self.post(edge, from, found);
+        let Turn { edge, from } = turn;
+        if self.may_post(edge, &from) {
+            return self.post(edge, &from, found);
         }
         self.back_if_out(edge);
         Ok(())
     }
 
-    /// Gives the edge back if it is out.
-    pub(crate) fn back_if_out(&mut self, edge: u32)
+    /// Ends a turn whose flow was not found: gives the edge back if it is out.
+    pub(crate) fn give_up(&mut self, turn: Turn<V>)
+        requires { IsSomeAnd K.equations (λ s. turn.edge < s.edges) }
+        ensures out { 0 < times_out self.old turn.edge → self.new ≡ after_back self.old turn.edge }
+        ensures home { times_out self.old turn.edge ≡ 0 → self.new ≡ self.old }
+    {
+        let Turn { edge, from: _ } = turn;
+        self.back_if_out(edge);
+    }
+
+    fn back_if_out(&mut self, edge: u32)
         requires { IsSomeAnd K.equations (λ s. edge < s.edges) }
         ensures out { 0 < times_out self.old edge → self.new ≡ after_back self.old edge }
         ensures home { times_out self.old edge ≡ 0 → self.new ≡ self.old }
@@ -201,7 +232,8 @@ impl<V: Lattice, K: System<V>> Board<V, K> {
     /// Gives back each edge that is out, as often as it is out.
     pub fn give_all_back<F: Flow<Value = V>>(&mut self, flow: &F)
         requires { K.equations ≡ Some (F.equations flow.now) }
-        ensures { AreHome self.new (F.equations flow.now).edges }
+        ensures home { AreHome self.new (F.equations flow.now).edges }
+        ensures values { self.new.values ≡ self.old.values }
     {
         for edge in 0..flow.edges() {
             while self.is_out(edge) {

@@ -1,4 +1,4 @@
-ghost use Rattle.std.specs.Prelude.{◌≡◌, ℕ, ◌+◌, ◌<◌, ◌≤◌, ◌^◌, List, All, IfOk, IfSome, vec_len, length};
+ghost use Rattle.std.specs.Prelude.{◌≡◌, ℕ, ◌+◌, ◌<◌, ◌≤◌, ◌^◌, List, All, IfOk, IfSome, IfNone, vec_len, length};
 ghost use Rattle.fix_board.specs.Pieces.{pieces_below, AreDrawn, ArePlaced};
 
 use crate::gate::Gate;
@@ -119,9 +119,13 @@ fn gather<W: Work, R: Wait, G: Gate>(
     Ok(found)
 }
 
-/// The next index, if there is one.
+/// The next index, if there is one. No index is drawn twice.
 fn draw(next: &mut u32, count: u32) -> Option<u32>
-    ensures { IfSome result (λ i. i < count) }
+    ensures some { IfSome result (λ i. i < count) }
+    ensures drawn { IfSome result (λ i. i ≡ next.old) }
+    ensures next { IfSome result (λ i. next.new ≡ i + 1) }
+    ensures none { IfNone result (count ≤ next.old) }
+    ensures unchanged { IfNone result (next.new ≡ next.old) }
 {
     let index = *next;
     if index >= count {

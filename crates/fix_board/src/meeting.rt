@@ -130,10 +130,13 @@ struct Steps {
     second: Option<u32>,
     third: Option<u32>,
     last: Option<u32>,
+    given_up: bool,
+    ended: bool,
     values: Vec<bool>,
 }
 
-/// Takes three times, posts the first edge, and posts the second or gives it back. Then takes once more, and drains.
+/// Takes three times, posts the first edge, and posts the second or gives it back. Then takes once more, gives it back, makes two
+/// turns, of which the first is given up, and drains.
 fn stepped<K: System<bool>>(
     alloc: Global,
     flow: &Fork,
@@ -147,20 +150,15 @@ fn stepped<K: System<bool>>(
     let second = board.take();
     let third = board.take();
     if let Some(edge) = first {
-        let from = board.source_copy(edge)?;
-        let found = flow.flow(edge, &from)?;
-        board.post_or_back(edge, &from, found)?;
+        ended(&mut board, flow, edge, true)?;
     }
     if let Some(edge) = second {
-        let from = board.source_copy(edge)?;
-        let found = flow.flow(edge, &from)?;
-        if post_second && board.may_post(edge, &from) {
-            board.post(edge, &from, found)?;
-        } else {
-            board.back_if_out(edge);
-        }
+        ended(&mut board, flow, edge, post_second)?;
     }
     let last = board.take();
+    board.give_all_back(flow);
+    let given_up = turned(&mut board, flow, false)?;
+    let ended = turned(&mut board, flow, true)?;
     board.give_all_back(flow);
     board.drain(flow)?;
     let values = board.into_assignment().into_vec();
@@ -169,8 +167,58 @@ fn stepped<K: System<bool>>(
         second,
         third,
         last,
+        given_up,
+        ended,
         values,
     })
+}
+
+/// Posts the flow of an edge's source, or gives the edge back.
+fn ended<K: System<bool>>(
+    board: &mut Board<bool, K>,
+    flow: &Fork,
+    edge: u32,
+    post: bool,
+) -> Result<(), OutOfMemory>
+    requires named { K.equations ≡ Some fork }
+    requires kind { K.kind ≡ [] }
+    requires edge { edge < 2 }
+{
+    let from = board.source_copy(edge)?;
+    let found = flow.flow(edge, &from)?;
+    if post && board.may_post(edge, &from) {
+        return board.post(edge, &from, found);
+    }
+    if board.is_out(edge) {
+        board.give_back(edge);
+    }
+    Ok(())
+}
+
+/// A worker's turn, ended by its post or given up. False where no edge was taken.
+fn turned<K: System<bool>>(
+    board: &mut Board<bool, K>,
+    flow: &Fork,
+    post: bool,
+) -> Result<bool, OutOfMemory>
+    requires named { K.equations ≡ Some fork }
+    requires kind { K.kind ≡ [] }
+{
+    let Some(turn) = board.take_copy()? else {
+        return Ok(false);
+    };
+    if !post {
+        board.give_up(turn);
+        return Ok(true);
+    }
+    match turn.flow(flow) {
+        Ok(found) => board.post_or_back(turn, found)?,
+        Err(error) => {
+            board.give_up(turn);
+            return Err(error);
+        }
+    }
+    Ok(true)
 }
 
 #[test]
@@ -185,9 +233,12 @@ fn board_step_by_step(rt: HostRuntime) -> Result<(), Fail> {
     assert_eq!(rt; posted.second, Some(1));
     assert_eq!(rt; posted.third, None);
     assert_eq!(rt; posted.last, None);
+    assert!(rt; !posted.given_up);
     assert_eq!(rt; posted.values.as_slice(), all.as_slice());
     let given = stepped::<Brand>(rt.alloc(), &flow, false)?;
     assert_eq!(rt; given.last, Some(1));
+    assert!(rt; given.given_up);
+    assert!(rt; given.ended);
     assert_eq!(rt; given.values.as_slice(), all.as_slice());
     Ok(())
 }

@@ -25,14 +25,14 @@ fn work<F: Flow, K: System<F::Value>, R: Wait, G: Gate>(
     requires kind { K.kind ≡ F.kind flow.now }
 {
     for turn in 0..TURNS {
-        let Some((edge, from)) = board.lock(rt).take_copy()? else {
+        let Some(taken) = board.lock(rt).take_copy()? else {
             break;
         };
         gate.pass(worker, turn);
-        match flow.flow(edge, &from) {
-            Ok(found) => board.lock(rt).post_or_back(edge, &from, found)?,
+        match taken.flow(flow) {
+            Ok(found) => board.lock(rt).post_or_back(taken, found)?,
             Err(error) => {
-                board.lock(rt).back_if_out(edge);
+                board.lock(rt).give_up(taken);
                 return Err(error);
             }
         }
