@@ -5,7 +5,6 @@ use Rattle.std.specs.declared.alloc.Global.{Global}
 use Rattle.std.proofs.lemmas.List.{drop_more, map-append}
 use Rattle.gimple_ir.specs.declared.statement.Stmt.{Stmt}
 use Rattle.gimple_ir.specs.declared.block.Block.{Block}
-use Rattle.gimple_ir.specs.declared.block.Case.{Case}
 use Rattle.gimple_ir.specs.declared.block.End.{End}
 use Rattle.gimple_core.specs.Run.{block_place, place_or}
 use Rattle.gimple_claims.specs.Kept.{new_body, new_blocks}
@@ -29,16 +28,16 @@ rows_more blocks rows news v k d all l same pushed h =
     ∙ (ap (λ (xs : List ℕ). listed rows ++ (xs ∷ rest)) same
     ∙ (ap (λ (ys : List Block). listed rows ++ all_targets blocks ys) (sym (drop_more blocks k d l)) ∙ h))))
 
--- one case more
-pub case_more : (blocks : List Block) (cases : List Case) (k : ℕ) (d : Case) (found new : List ℕ) (x : ℕ) (all : List ℕ) → k < length cases → x ≡ place_or (block_place (get_or cases k d).target blocks) → new ≡ found ++ x ∷ [] →
-    found ++ places_of blocks (map (λ (c : Case). c.target) (drop k cases)) ≡ all → new ++ places_of blocks (map (λ (c : Case). c.target) (drop (k + 1) cases)) ≡ all
+-- one label more
+pub label_more : (blocks : List Block) (labels : List ℕ) (k d : ℕ) (found new : List ℕ) (x : ℕ) (all : List ℕ) → k < length labels → x ≡ place_or (block_place (get_or labels k d) blocks) → new ≡ found ++ x ∷ [] →
+    found ++ places_of blocks (drop k labels) ≡ all → new ++ places_of blocks (drop (k + 1) labels) ≡ all
 unfolding places_of
-case_more blocks cases k d found new x all l same pushed h =
-    let rest : List ℕ = places_of blocks (map (λ (c : Case). c.target) (drop (k + 1) cases)) in
+label_more blocks labels k d found new x all l same pushed h =
+    let rest : List ℕ = places_of blocks (drop (k + 1) labels) in
     ap (λ (xs : List ℕ). xs ++ rest) pushed
     ∙ (append_assoc found (x ∷ []) rest
     ∙ (ap (λ (y : ℕ). found ++ (y ∷ rest)) same
-    ∙ (ap (λ (cs : List Case). found ++ places_of blocks (map (λ (c : Case). c.target) cs)) (sym (drop_more cases k d l)) ∙ h)))
+    ∙ (ap (λ (ls : List ℕ). found ++ places_of blocks ls) (sym (drop_more labels k d l)) ∙ h)))
 
 -- ---- targets are blocks
 

@@ -1,5 +1,5 @@
 -- How many branches are left from a block on.
-use Rattle.std.proofs.Common.{◌≡◌, ℕ, ◌+◌, ◌<◌, List, ◌∷◌, ◌++◌, length, map, length-append, drop, get_or, refl, sym, ◌∙◌, ap, arith}
+use Rattle.std.proofs.Common.{◌≡◌, ℕ, ◌+◌, ◌<◌, List, ◌∷◌, length, length-append, drop, get_or, refl, sym, ◌∙◌, ap, arith}
 use Rattle.std.proofs.lemmas.List.{drop_more}
 use Rattle.gimple_ir.specs.declared.block.Block.{Block}
 use Rattle.body_values.specs.Flow.{labels_of, branches_to, branches_from, branches_of}

@@ -1,5 +1,5 @@
 -- What is given of a function of which nothing is known.
-use Rattle.std.specs.Prelude.{List, [], map}
+use Rattle.std.specs.Prelude.{[], map}
 use Rattle.gimple_ir.specs.declared.declarations.Register.{Register}
 use Rattle.gimple_ir.specs.declared.program.Function.{Function}
 use Rattle.value_domain.specs.declared.abs_val.AbsVal.{AbsVal}

@@ -12,7 +12,7 @@ use std::marker::Model;
 
 /// Blocks in a row, each found by its label.
 #[derive(Drop)]
-struct LabelledBlocks<'a> {
+pub struct LabelledBlocks<'a> {
     blocks: &'a [Block],
     labels: Labels,
 }
@@ -39,7 +39,8 @@ fn block_labels(alloc: Global, blocks: &[Block]) -> Result<Labels, OutOfMemory>
 }
 
 impl<'a> LabelledBlocks<'a> {
-    fn new(alloc: Global, blocks: &'a [Block]) -> Result<LabelledBlocks<'a>, OutOfMemory>
+    /// A table of these blocks. Err is want of memory.
+    pub fn new(alloc: Global, blocks: &'a [Block]) -> Result<LabelledBlocks<'a>, OutOfMemory>
         ensures { IfOk result (λ t. t ≡ blocks.now) }
     {
         let labels = block_labels(alloc, blocks)?;
@@ -53,22 +54,29 @@ impl<'a> LabelledBlocks<'a> {
     {
         self.labels.place(label)
     }
+
+    /// The number of the block to which a label leads: of the first one that has it, or 0 where none has.
+    pub fn target(&self, label: u64) -> u32
+        requires { length self.now < 2 ^ 32 }
+        ensures { result ≡ place_or (block_place label self.now) }
+    {
+        match self.place(label) {
+            Some(place) => place as u32,
+            None => 0,
+        }
+    }
 }
 
-/// The branch to a label; where no block has it, to the first one.
+/// The branch to a label.
 fn branch(blocks: &LabelledBlocks, source: u32, slot: usize, label: u64) -> Branch
     requires blocks { length blocks.now < 2 ^ 32 }
     requires slot { slot < 2 ^ 32 }
     ensures { result ≡ record { source = source; slot = slot; target = place_or (block_place label blocks.now) } }
 {
-    let target = match blocks.place(label) {
-        Some(place) => place as u32,
-        None => 0,
-    };
     Branch {
         source,
         slot: slot as u32,
-        target,
+        target: blocks.target(label),
     }
 }
 
@@ -83,8 +91,8 @@ fn switch_labels(alloc: Global, cases: &[Case], other: u64) -> Result<Vec<u64>, 
     Ok(labels)
 }
 
-/// The labels that an end leads to, in its branches' order.
-fn labels(alloc: Global, end: &End) -> Result<Vec<u64>, OutOfMemory>
+/// The labels that an end leads to, in its branches' order. Err is want of memory.
+pub fn labels_of(alloc: Global, end: &End) -> Result<Vec<u64>, OutOfMemory>
     ensures { IfOk result (λ v. v.items ≡ labels_of end.now) }
 {
     match end {
@@ -132,7 +140,7 @@ pub fn branches_of(alloc: Global, blocks: &[Block]) -> Result<Vec<Branch>, OutOf
     let labelled = LabelledBlocks::new(alloc, blocks)?;
     let mut found = Vec::new(alloc);
     for source in 0..blocks.len() {
-        let labels = labels(alloc, &blocks[source].end)?;
+        let labels = labels_of(alloc, &blocks[source].end)?;
         put_branches(&labelled, source as u32, labels.as_slice(), &mut found)?;
     }
     Ok(found)

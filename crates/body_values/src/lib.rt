@@ -21,7 +21,7 @@ mod values;
 
 pub use block_values::PointRow;
 pub use branches::Branch;
-pub use branching::branches_of;
+pub use branching::{LabelledBlocks, branches_of, labels_of};
 pub use changes::{is_slot, target};
 pub use facts::{AbsVals, Facts, LoadFact, LoadFacts};
 pub use few_branches::has_few_branches;

@@ -1,4 +1,4 @@
-use Rattle.std.proofs.Common.{rules, ◌≡◌, ◌<◌, length, ap, arith}
+use Rattle.std.proofs.Common.{rules, ◌<◌, length, ap, arith}
 use Rattle.gimple_ir.specs.declared.block.Block.{Block}
 use Rattle.body_values.specs.Flow.{labels_of}
 use Rattle.body_values.proofs.FewBranches.{next_counts, all_counts}
