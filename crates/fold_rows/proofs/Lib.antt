@@ -1,0 +1,2 @@
+pub mod TextSizes
+pub mod Folding
