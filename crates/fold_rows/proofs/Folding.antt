@@ -1,5 +1,5 @@
 -- What a function of a program with top facts meets.
-use Rattle.std.proofs.Common.{◌≡◌, ◌<◌, ◌≤◌, ◌^◌, ℕ, ℤ, Bool, true, false, MatchBool, List, Some, IsSomeAnd, slice_get, sym, subst}
+use Rattle.std.proofs.Common.{◌≡◌, ℕ, ℤ, List, Some, IsSomeAnd, slice_get, sym, subst}
 use Rattle.gimple_ir.specs.declared.program.Function.{Function}
 use Rattle.gimple_ir.specs.declared.program.Program.{Program}
 use Rattle.value_domain.specs.Thresholds.{IsLawful, thresholds_list}
@@ -13,7 +13,3 @@ of_function P p n f there h = subst (λ o. IsSomeAnd o P) (sym there) h
 
 pub facts_fit : (p : Program) (n : ℕ) (f : Function) (facts : Facts) (most : ℕ) → slice_get p.functions n ≡ Some f → ((m : ℕ) (ts : List ℤ) → IsLawful ts → FactsFit f facts m ts) → OfFunction p n (λ g. FactsFit g facts most (thresholds_list p))
 facts_fit p n f facts most there h = of_function (λ g. FactsFit g facts most (thresholds_list p)) p n f there (h most (thresholds_list p) (list_lawful p))
-
-pub few_if : (b : Bool) (n : ℕ) → MatchBool b (n < 2 ^ 32) (2 ^ 32 ≤ n) → b ≡ true → n < 2 ^ 32
-few_if true n h e = h
-few_if false n h e = cc

@@ -1,4 +1,4 @@
-use Rattle.std.proofs.Common.{rules, ◌≡◌, ◌<◌, ◌^◌, length, true, Some, slice_get}
+use Rattle.std.proofs.Common.{rules, ◌≡◌, ◌<◌, ◌^◌, length, Some, slice_get}
 use Rattle.gimple_ir.specs.declared.program.Function.{Function}
 use Rattle.body_values.specs.Flow.{branches_of}
 use Rattle.body_values.proofs.Settled.{numbered}
@@ -7,13 +7,13 @@ use Rattle.fold_rows.proofs.folds.folded_function.Goals as goal
 
 pub values_of-requires-clause-branches : goal.values_of-requires-clause-branches
 values_of-requires-clause-branches c =
-    let there : slice_get c.args.program.now.program.functions c.args.number ≡ Some c.index-as_slice-function.result =
-    numbered c.program-source.result.now c.args.program.now.program c.as_slice.result.now c.args.number c.index-as_slice-function.result c.program-source.ensures.same c.as_slice.ensures c.requires.within c.index-as_slice-function.is in
-    let few : length (branches_of c.index-as_slice-function.result.blocks) < 2 ^ 32 = search rules in
-    of_function (λ (f : Function). length (branches_of f.blocks) < 2 ^ 32) c.args.program.now.program c.args.number c.index-as_slice-function.result there few
+    let there : slice_get c.args.program.now.program.functions c.args.number ≡ Some c.index-as_slice-number.result =
+    numbered c.program-source.result.now c.args.program.now.program c.as_slice.result.now c.args.number c.index-as_slice-number.result c.program-source.ensures.same c.as_slice.ensures c.requires.within c.index-as_slice-number.is in
+    let few : length (branches_of c.index-as_slice-number.result.blocks) < 2 ^ 32 = search rules in
+    of_function (λ (f : Function). length (branches_of f.blocks) < 2 ^ 32) c.args.program.now.program c.args.number c.index-as_slice-number.result there few
 
 pub values_of-requires-clause-facts : goal.values_of-requires-clause-facts
 values_of-requires-clause-facts c =
-    let there : slice_get c.args.program.now.program.functions c.args.number ≡ Some c.index-as_slice-function.result =
-    numbered c.program-source.result.now c.args.program.now.program c.as_slice.result.now c.args.number c.index-as_slice-function.result c.program-source.ensures.same c.as_slice.ensures c.requires.within c.index-as_slice-function.is in
-    facts_fit c.args.program.now.program c.args.number c.index-as_slice-function.result c.in_ok-facts.facts 8 there c.in_ok-facts.ensures.fit
+    let there : slice_get c.args.program.now.program.functions c.args.number ≡ Some c.index-as_slice-number.result =
+    numbered c.program-source.result.now c.args.program.now.program c.as_slice.result.now c.args.number c.index-as_slice-number.result c.program-source.ensures.same c.as_slice.ensures c.requires.within c.index-as_slice-number.is in
+    facts_fit c.args.program.now.program c.args.number c.index-as_slice-number.result c.in_ok-facts.facts 8 there c.in_ok-facts.ensures.fit
