@@ -11,11 +11,7 @@ use graph_walk::reached_in;
 use std::alloc::Global;
 
 /// The blocks that an end leads to, in its branches' order.
-fn targets(
-    alloc: Global,
-    blocks: &LabelledBlocks,
-    end: &End,
-) -> Result<Vec<u32>, OutOfMemory>
+fn targets(alloc: Global, blocks: &LabelledBlocks, end: &End) -> Result<Vec<u32>, OutOfMemory>
     requires { length blocks.now < 2 ^ 32 }
     ensures { IfOk result (λ v. v.items ≡ targets_of blocks.now end.now) }
 {
