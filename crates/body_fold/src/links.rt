@@ -3,12 +3,25 @@
 ghost use Rattle.std.specs.Prelude.{◌≡◌, ◌<◌, ◌^◌, length, IfOk};
 ghost use Rattle.graph_walk.specs.Graph.{AreMarks};
 ghost use Rattle.graph_walk.specs.Walk.{listed};
-ghost use Rattle.body_fold.specs.Links.{targets_of, all_targets, out_of};
+ghost use Rattle.body_fold.specs.Links.{places_of, targets_of, all_targets, out_of};
 
 use body_values::{LabelledBlocks, labels_of};
 use gimple_core::{Block, End, OutOfMemory};
 use graph_walk::reached_in;
 use std::alloc::Global;
+
+/// The blocks to which labels lead.
+#[tactic(auto, unfolding(crate::specs::Links::places_of))]
+fn places(alloc: Global, blocks: &LabelledBlocks, labels: &[u64]) -> Result<Vec<u32>, OutOfMemory>
+    requires { length blocks.now < 2 ^ 32 }
+    ensures { IfOk result (λ v. v.items ≡ places_of blocks.now labels.now) }
+{
+    let mut places = Vec::new(alloc);
+    for at in 0..labels.len() {
+        places.push(blocks.target(labels[at]))?;
+    }
+    Ok(places)
+}
 
 /// The blocks that an end leads to, in its branches' order.
 fn targets(alloc: Global, blocks: &LabelledBlocks, end: &End) -> Result<Vec<u32>, OutOfMemory>
@@ -16,10 +29,7 @@ fn targets(alloc: Global, blocks: &LabelledBlocks, end: &End) -> Result<Vec<u32>
     ensures { IfOk result (λ v. v.items ≡ targets_of blocks.now end.now) }
 {
     let labels = labels_of(alloc, end)?;
-    let mut targets = Vec::new(alloc);
-    for at in 0..labels.len() {
-        targets.push(blocks.target(labels[at]))?;
-    }
+    let targets = places(alloc, blocks, labels.as_slice())?;
     Ok(targets)
 }
 
