@@ -3,8 +3,8 @@
 ghost use Rattle.std.specs.Prelude.{◌≡◌, ◌∷◌, [], IfOk};
 ghost use Rattle.body_values.specs.Examples.{IsExample, i, starting, testing, counting, leaving, count_function, count_program};
 
-use super::{AbsVals, BodyValues, Facts, LoadFacts, PointRow, values_of};
-use fix_engine::{Lifted, OrderSolver, RoundSolver};
+use super::{AbsVals, BodyValues, Facts, LoadFacts, values_of};
+use fix_engine::{OrderSolver, RoundSolver};
 use gimple_core::{
     Block, Blocks, Checked, Cmp, Decls, End, Function, Functions, Globals, Op, Operand,
     OutOfMemory, Params, Point, Program, Register, Registers, Scalar, Stmt, Stmts, StructDefs,
@@ -213,32 +213,6 @@ fn says_no_more(alloc: Global, values: &BodyValues) -> Result<bool, OutOfMemory>
     )
 }
 
-/// Whether the only register is exactly in this interval in a row.
-fn is_between(row: &PointRow, low: i128, high: i128) -> bool {
-    match row {
-        Lifted::Reached(values) => match values.as_slice() {
-            [value] => value.range.low == low && value.range.high == high,
-            _ => false,
-        },
-        Lifted::NotReached => false,
-    }
-}
-
-/// Whether a row that goes through the block that counts has the values before its statement, behind it, and none past
-/// the end.
-fn goes_through(values: &BodyValues) -> Result<bool, OutOfMemory> {
-    let mut row = values.begin(2)?;
-    let before = is_between(&row, 0, 9);
-    values.pass(2, 0, &mut row)?;
-    let behind = is_between(&row, 1, 10);
-    values.pass(2, 1, &mut row)?;
-    let past = match row {
-        Lifted::Reached(_) => true,
-        Lifted::NotReached => false,
-    };
-    Ok(before && behind && !past)
-}
-
 #[test]
 fn values_of_a_loop(rt: HostRuntime) -> Result<(), Fail> {
     let alloc = rt.alloc();
@@ -248,6 +222,5 @@ fn values_of_a_loop(rt: HostRuntime) -> Result<(), Fail> {
     assert!(rt; counts_to_ten(alloc, &ordered)?);
     assert!(rt; says_no_more(alloc, &rounds)?);
     assert!(rt; ends_at(&rounds, 0, 1) && ends_at(&rounds, 3, 0));
-    assert!(rt; goes_through(&rounds)? && goes_through(&ordered)?);
     Ok(())
 }
