@@ -1,19 +1,16 @@
 -- The first fault of some small programs: one for each code, and one for each order of two checks that both fail.
-use Rattle.std.proofs.Common.{◌≡◌, ℕ, true, false, List, [], ◌∷◌, Option, Some, None, refl, pos, negsuc}
+use Rattle.std.proofs.Common.{◌≡◌, ℕ, true, List, [], ◌∷◌, Option, Some, None, refl, pos}
 use Rattle.gimple_ir.specs.declared.scalar.Scalar.{Scalar}
-use Rattle.gimple_ir.specs.declared.scalar.Scalar.TheVariants.{I8, I32, I64, U8, Ptr}
-use Rattle.gimple_ir.specs.declared.scalar.Op.TheVariants.{Add, Sub, Shl}
-use Rattle.gimple_ir.specs.declared.scalar.Cmp.TheVariants.{Eq, Lt}
+use Rattle.gimple_ir.specs.declared.scalar.Scalar.TheVariants.{I32, I64, Ptr}
 use Rattle.gimple_ir.specs.declared.operand.Operand.{Operand}
-use Rattle.gimple_ir.specs.declared.operand.Operand.TheVariants.{Reg, Number, Null, Address}
-use Rattle.gimple_ir.specs.declared.operand.Place.{Place}
+use Rattle.gimple_ir.specs.declared.operand.Operand.TheVariants.{Reg, Number}
 use Rattle.gimple_ir.specs.declared.operand.Base.TheVariants.{Variable}
 use Rattle.gimple_ir.specs.declared.statement.Stmt.{Stmt}
-use Rattle.gimple_ir.specs.declared.statement.Stmt.TheVariants.{Copy, Arith, Compare, Convert, Load, Store, Call, Get, Put, Abort}
+use Rattle.gimple_ir.specs.declared.statement.Stmt.TheVariants.{Copy, Load, Store, Call}
 use Rattle.gimple_ir.specs.declared.block.Case.{Case}
 use Rattle.gimple_ir.specs.declared.block.Block.{Block}
 use Rattle.gimple_ir.specs.declared.block.End.{End}
-use Rattle.gimple_ir.specs.declared.block.End.TheVariants.{Goto, If, Switch, Return}
+use Rattle.gimple_ir.specs.declared.block.End.TheVariants.{Goto, Switch, Return}
 use Rattle.gimple_ir.specs.declared.declarations.Shape.{Shape}
 use Rattle.gimple_ir.specs.declared.declarations.Shape.TheVariants.{Plain, Named}
 use Rattle.gimple_ir.specs.declared.declarations.Decl.{Decl}

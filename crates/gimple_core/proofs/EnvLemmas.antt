@@ -1,10 +1,9 @@
 -- Look-ups by name.
-use Rattle.std.proofs.Common.{◌≡◌, ℕ, Bool, true, false, not, cond, ◌||◌, List, [], ◌∷◌, ◌++◌, map, is_some, Option, Some, None, Result, Ok, Err, refl, sym, ap, ◌∙◌, if◌then◌else◌}
+use Rattle.std.proofs.Common.{◌≡◌, ℕ, Bool, true, false, cond, ◌||◌, List, [], ◌∷◌, ◌++◌, map, is_some, Some, Ok, refl, sym, ap, ◌∙◌, if◌then◌else◌}
 use Rattle.std.specs.List.{find}
 use Rattle.std.specs.Str.{bytes_eq}
 use Rattle.std.specs.Cmp.Lexicographic.{bytes_decides}
 use Rattle.gimple_core.specs.Names.{same_name}
-use Rattle.gimple_core.specs.Verdict.{Verdict}
 use Rattle.gimple_core.specs.Env.{Names, named, has, declared, new_or_twice}
 use Rattle.gimple_core.proofs.NameLemmas.{same_name_true, same_name_self}
 use Rattle.gimple_core.proofs.Passed.{err_no}

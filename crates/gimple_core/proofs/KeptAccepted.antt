@@ -1,8 +1,7 @@
 -- A program without the functions outside a closed set of names has no type fault where the program has none.
-use Rattle.std.proofs.Common.{◌≡◌, ◌↔◌, ℕ, ◌+◌, ◌==◌, Bool, true, false, not, cond, ◌||◌, List, [], ◌∷◌, ◌++◌, map, length, filter, is_some, Option, Some, None, Result, Ok, Err, IsTrue, refl, sym, ap, ◌∙◌, subst, append_assoc, append-nil, if◌then◌else◌, true≢false}
+use Rattle.std.proofs.Common.{◌≡◌, ℕ, ◌+◌, Bool, true, false, not, cond, ◌||◌, List, [], ◌∷◌, ◌++◌, length, filter, is_some, Some, None, Ok, IsTrue, refl, sym, ap, ◌∙◌, subst, append_assoc, append-nil, if◌then◌else◌, true≢false}
 use Rattle.std.specs.Str.{bytes_eq}
 use Rattle.std.specs.Cmp.Lexicographic.{bytes_decides}
-use Rattle.gimple_ir.specs.declared.scalar.Scalar.{Scalar}
 use Rattle.gimple_ir.specs.declared.statement.Stmt.{Stmt}
 use Rattle.gimple_ir.specs.declared.statement.Stmt.TheVariants.{Copy, Arith, Compare, Convert, Load, Store, Call, Get, Put, Abort}
 use Rattle.gimple_ir.specs.declared.block.Block.{Block}
@@ -15,14 +14,14 @@ use Rattle.gimple_ir.specs.declared.fault.Site.TheVariants as site
 use Rattle.gimple_core.specs.Names.{same_name}
 use Rattle.gimple_core.specs.Run.{Calling, call_of, function_named, main_name}
 use Rattle.gimple_core.specs.Reach.{CallIn, CallInBlocks, IsClosed, IsWithoutUnreached, with_kept}
-use Rattle.gimple_core.specs.Verdict.{Verdict, Judgement, and_then, demand, found, at, pure}
-use Rattle.gimple_core.specs.Env.{Env, Names, named, has, declared, functions_by_name, globals_by_name}
+use Rattle.gimple_core.specs.Verdict.{demand, at}
+use Rattle.gimple_core.specs.Env.{Env, Names, named, has, functions_by_name, globals_by_name}
 use Rattle.gimple_core.specs.Statements as s
 use Rattle.gimple_core.specs.Declarations as d
 use Rattle.gimple_core.specs.Accepted.{checked, first_fault, known_env}
-use Rattle.gimple_core.proofs.NameLemmas.{same_name_true, same_name_self}
+use Rattle.gimple_core.proofs.NameLemmas.{same_name_true}
 use Rattle.gimple_core.proofs.Passed.{first_passed, both_pass, demanded, demand_passes, at_passed, at_passes, not_true, no_fault, no_fault_of}
-use Rattle.gimple_core.proofs.EnvLemmas.{same_test, named_find, has_append, declared_new, declares, named_behind, named_here}
+use Rattle.gimple_core.proofs.EnvLemmas.{named_find, has_append, declared_new, declares, named_behind, named_here}
 use Rattle.gimple_core.proofs.Dropping.{first_kept, reached_closed}
 
 -- what the first table has, the second one has

@@ -1,5 +1,5 @@
 -- What a program without a type fault has: a main, unique names of functions, and typed statements and ends.
-use Rattle.std.proofs.Common.{◌≡◌, ℕ, ◌+◌, ◌==◌, Bool, true, false, not, if◌then◌else◌, List, [], ◌∷◌, ◌++◌, map, length, nat_le, Option, Some, None, Result, Ok, Err, refl, sym, ap, ◌∙◌, subst, append_assoc, append-nil}
+use Rattle.std.proofs.Common.{◌≡◌, ℕ, ◌+◌, ◌==◌, Bool, true, false, not, if◌then◌else◌, List, [], ◌∷◌, ◌++◌, map, length, nat_le, Option, Some, None, Ok, refl, sym, ap, ◌∙◌, subst, append_assoc, append-nil}
 use Rattle.std.specs.List.{list_any}
 use Rattle.std.specs.Str.{bytes_eq}
 use Rattle.gimple_ir.specs.declared.scalar.Scalar.{Scalar}
@@ -9,19 +9,17 @@ use Rattle.gimple_ir.specs.declared.declarations.Decl.{Decl}
 use Rattle.gimple_ir.specs.declared.declarations.Global.{Global}
 use Rattle.gimple_ir.specs.declared.declarations.StructDef.{StructDef}
 use Rattle.gimple_ir.specs.declared.declarations.Register.{Register}
-use Rattle.gimple_ir.specs.declared.operand.Operand.{Operand}
 use Rattle.gimple_ir.specs.declared.program.Function.{Function}
 use Rattle.gimple_ir.specs.declared.program.Program.{Program}
 use Rattle.gimple_ir.specs.declared.fault.Site.TheVariants as site
 use Rattle.gimple_core.specs.Names.{same_name}
 use Rattle.gimple_core.specs.Run.{function_named, main_name}
 use Rattle.gimple_core.specs.Layout.{layout_of}
-use Rattle.gimple_core.specs.Verdict.{Verdict, Judgement, and_then, demand, found, at}
+use Rattle.gimple_core.specs.Verdict.{Verdict, demand, at}
 use Rattle.gimple_core.specs.Env.{Env, Names, named, has, declared, globals_by_name, functions_by_name, decls_by_name, registers_by_name, structs_by_name}
-use Rattle.gimple_core.specs.Statements as s
 use Rattle.gimple_core.specs.Declarations as d
 use Rattle.gimple_core.specs.Accepted.{checked, first_fault, known_env}
-use Rattle.gimple_core.specs.Typed.{BlocksTyped, FunctionsTyped, MainTyped, AcceptedTyped, env_of}
+use Rattle.gimple_core.specs.Typed.{BlocksTyped, FunctionsTyped, AcceptedTyped}
 use Rattle.gimple_core.proofs.Passed.{first_passed, demanded, at_passed, no_fault, err_no}
 use Rattle.gimple_core.proofs.EnvLemmas.{same_test, named_find, declared_new}
 use Rattle.gimple_core.proofs.KeptAccepted.{heads_are, heads_find, Each}
