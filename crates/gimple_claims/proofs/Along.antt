@@ -6,7 +6,8 @@ use Rattle.gimple_core.specs.State.{State}
 use Rattle.gimple_core.specs.Run.{Reached, Moves, Stops, Traps, Did, Goes, Reaches, Transfer, perform, finish, resumed, stepped, step, start, then_walk, walk, runs_from, Run}
 use Rattle.gimple_core.proofs.Simulation.{Matches, Does, Stands, Follows, Simulates, runs_same, KeepsRest, perform_rest}
 use Rattle.gimple_core.specs.Trace.{Event, main_entry, told, after}
-use Rattle.gimple_claims.proofs.Comes.{InDid, InReached, Comes, begins, goes, moves, walk_step}
+use Rattle.gimple_core.proofs.StepLemmas.{walk_step}
+use Rattle.gimple_claims.proofs.Comes.{InDid, InReached, Comes, begins, goes, moves}
 
 -- ---- one step for one
 

@@ -1,7 +1,7 @@
 -- From an accepted program to the checks of each of its functions.
 use Rattle.std.proofs.Common.{◌≡◌, ℕ, ◌+◌, Bool, true, false, not, List, [], ◌∷◌, ◌++◌, map, length, sym, ◌∙◌, ap, subst, append_assoc, append-nil, Option, Some, None, Ok, if◌then◌else◌}
-use Rattle.std.specs.Prelude.{nat_le, ◌==◌}
-use Rattle.std.specs.List.{find, list_any}
+use Rattle.std.specs.Prelude.{nat_le}
+use Rattle.std.specs.List.{find}
 use Rattle.gimple_ir.specs.declared.declarations.Register.{Register}
 use Rattle.gimple_ir.specs.declared.declarations.Decl.{Decl}
 use Rattle.gimple_ir.specs.declared.declarations.StructDef.{StructDef}

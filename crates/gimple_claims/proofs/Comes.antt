@@ -1,12 +1,13 @@
 -- The states of a run with what happened before each, and the one induction over runs.
-use Rattle.std.proofs.Common.{◌≡◌, ℕ, zero, suc, ℤ, Bool, true, false, if◌then◌else◌, List, [], ◌∷◌, ◌++◌, refl, sym, ◌∙◌, ap, subst, append_assoc, append-nil, Option, Some, None}
+use Rattle.std.proofs.Common.{◌≡◌, ℕ, zero, suc, ℤ, Bool, true, false, List, [], ◌∷◌, ◌++◌, refl, sym, ◌∙◌, ap, subst, Option, Some, None}
 use Rattle.gimple_ir.specs.declared.program.Program.{Program}
 use Rattle.gimple_ir.specs.declared.statement.Stmt.{Stmt}
 use Rattle.gimple_core.specs.State.{State}
-use Rattle.gimple_core.specs.Run.{Reached, Moves, Stops, Traps, Did, Goes, Reaches, Transfer, perform, finish, resumed, stepped, step, then_walk, walk, start}
+use Rattle.gimple_core.specs.Run.{Reached, Moves, Stops, Traps, Did, Goes, Reaches, perform, finish, resumed, stepped, step, then_walk, walk, start}
 use Rattle.gimple_core.proofs.Simulation.{KeepsRest, perform_rest}
+use Rattle.gimple_core.proofs.StepLemmas.{same_told}
 pub use Rattle.gimple_claims.specs.Runs.{Comes, begins, goes, moves}
-use Rattle.gimple_core.specs.Trace.{Event, told_by, told, access, crossing, events_after, walk_events, events_on, events, main_entry, events_from, Trace, EachAfter, after, InEveryRun}
+use Rattle.gimple_core.specs.Trace.{Event, told_by, told, access, events_after, walk_events, events_on, events, main_entry, events_from, Trace, EachAfter, after, InEveryRun}
 
 abbrev pub InReached : (State → Type 0) → Reached → Type 0
 InReached I (Moves k t) = I t
@@ -72,15 +73,6 @@ arrives p input past s c (Moves k t) e = moves past k s t c e
 arrives p input past s c (Stops o z) e = tt
 arrives p input past s c (Traps o k) e = tt
 
--- where a statement goes on, the flag makes no difference
-same_told_of : (made : Bool) (a : Event) (es fs : List Event) → fs ≡ [] → a ∷ (es ++ (if made then fs else [])) ≡ a ∷ (es ++ (if true then fs else []))
-same_told_of true a es fs e = refl
-same_told_of false a es fs e = rw e refl
-
-pub same_told : (p : Program) (made : Bool) (xs : List Stmt) (s t : State) → stepped p s xs ≡ Goes t → told_by p made xs s ≡ told_by p true xs s
-unfolding told_by
-same_told p made xs s t e = same_told_of made _ _ _ (ap (crossing p.globals xs s) e)
-
 walked_did : (p : Program) (input : List ℤ) (Q : List Event → Event → Type 0) (past : List Event) (made : Bool) (s : State) (x : Stmt) (xs : List Stmt) → Comes p input past s → s.top.rest ≡ x ∷ xs → AtEach p input Q → ((past : List Event) (t : State) → Comes p input past t → t.top.rest ≡ xs → Walked p input Q past made (walk_events p made xs t) (walk p xs t)) → (d : Did) → stepped p s (x ∷ xs) ≡ d → KeepsRest xs d → Walked p input Q past made (told_by p made (x ∷ xs) s ++ events_after d (walk_events p made xs)) (then_walk d (walk p xs))
 walked_did p input Q past made s x xs c e all more (Goes t) f k =
     let same : told_by p made (x ∷ xs) s ≡ told_by p true (x ∷ xs) s = same_told p made (x ∷ xs) s t f in
@@ -136,54 +128,3 @@ in_run_of p input Q all n (Some s) e first = (first s refl, each_event p input Q
 pub in_every_run : (p : Program) (Q : List Event → Event → Type 0) → ((input : List ℤ) (s : State) → start p input ≡ Some s → Q [] (main_entry p s)) → ((input : List ℤ) → AtEach p input Q) → InEveryRun p Q
 unfolding Trace
 in_every_run p Q first all = record { each = λ input n. in_run_of p input Q (all input) n (start p input) refl (first input) }
-
--- ---- from the list to the states
-
-after_reaches : (p : Program) (made : Bool) (xs : List Stmt) (d : Did) → KeepsRest xs d → events_after d (walk_events p made xs) ≡ events_after d (λ t. walk_events p made t.top.rest t)
-after_reaches p made xs (Goes t) k = ap (λ ys. walk_events p made ys t) (sym k)
-after_reaches p made xs (Reaches r) k = refl
-
-then_reaches : (p : Program) (xs : List Stmt) (d : Did) → KeepsRest xs d → then_walk d (walk p xs) ≡ then_walk d (λ t. walk p t.top.rest t)
-then_reaches p xs (Goes t) k = ap (λ ys. walk p ys t) (sym k)
-then_reaches p xs (Reaches r) k = refl
-
--- the walk is the step and the walk from there
-pub walk_step : (p : Program) (xs : List Stmt) (s : State) → walk p xs s ≡ then_walk (stepped p s xs) (λ t. walk p t.top.rest t)
-unfolding walk
-walk_step p [] s = refl
-walk_step p (x ∷ xs) s = then_reaches p xs (perform p x (resumed s xs)) (perform_rest p x (resumed s xs))
-
-walk_tells : (p : Program) (made : Bool) (xs : List Stmt) (s : State) → walk_events p made xs s ≡ told_by p made xs s ++ events_after (stepped p s xs) (λ t. walk_events p made t.top.rest t)
-unfolding walk_events
-walk_tells p made [] s = sym (append-nil _)
-walk_tells p made (x ∷ xs) s = ap (λ es. told_by p made (x ∷ xs) s ++ es) (after_reaches p made xs (perform p x (resumed s xs)) (perform_rest p x (resumed s xs)))
-
-events_go : (p : Program) (s t : State) → step p s ≡ Goes t → (n : ℕ) → events p n s ≡ told p s ++ events p n t
-unfolding events
-events_go p s t e zero =
-    walk_tells p false s.top.rest s ∙ rw (same_told p false s.top.rest s t e, e) refl
-events_go p s t e (suc n) =
-    rw (walk_tells p true s.top.rest s, walk_step p s.top.rest s, e) (append_assoc (told p s) (walk_events p true t.top.rest t) (events_on (walk p t.top.rest t) (events p n)))
-
-events_move : (p : Program) (k : Transfer) (s t : State) → step p s ≡ Reaches (Moves k t) → (n : ℕ) → events p (suc n) s ≡ told p s ++ events p n t
-unfolding events
-events_move p k s t e n = rw (walk_tells p true s.top.rest s, walk_step p s.top.rest s, e, append-nil (told p s)) refl
-
-begins_each : (p : Program) (Q : List Event → Event → Type 0) (n : ℕ) (s : State) (o : Option State) → o ≡ Some s → EachAfter Q [] (events_from p n o) → EachAfter Q (main_entry p s ∷ []) (events p n s)
-begins_each p Q n s o e a = let b : EachAfter Q [] (events_from p n (Some s)) = subst (λ o. EachAfter Q [] (events_from p n o)) e a in b.1
-
-each_from : (p : Program) (Q : List Event → Event → Type 0) → InEveryRun p Q → (input : List ℤ) (past : List Event) (s : State) → Comes p input past s → (n : ℕ) → EachAfter Q past (events p n s)
-unfolding Trace
-each_from p Q all input _ _ (begins s e) n = begins_each p Q n s (start p input) e (all.each input n)
-each_from p Q all input _ _ (goes past s t c e) n =
-    each_last Q past (told p s) (events p n t) (subst (EachAfter Q past) (events_go p s t e n) (each_from p Q all input past s c n))
-each_from p Q all input _ _ (moves past k s t c e) n =
-    each_last Q past (told p s) (events p n t) (subst (EachAfter Q past) (events_move p k s t e n) (each_from p Q all input past s c (suc n)))
-
--- a claim on every run holds of what each state tells
-pub at_each : (p : Program) (Q : List Event → Event → Type 0) → InEveryRun p Q → (input : List ℤ) → AtEach p input Q
-unfolding events
-at_each p Q all input past s c =
-    each_first Q past (told p s) _
-    (each_first Q past (told p s ++ events_after (step p s) (λ t. walk_events p true t.top.rest t)) _
-    (subst (λ es. EachAfter Q past (es ++ events_on (walk p s.top.rest s) (events p zero))) (walk_tells p true s.top.rest s) (each_from p Q all input past s c (suc zero))))

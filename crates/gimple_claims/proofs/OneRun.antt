@@ -1,37 +1,11 @@
 -- Claims of the events of one run, and of the states that come up in it.
-use Rattle.std.proofs.Common.{◌≡◌, ℕ, zero, suc, ℤ, Bool, true, false, List, [], ◌∷◌, ◌++◌, refl, sym, ◌∙◌, ap, subst, append_assoc, append-nil, Option, Some}
+use Rattle.std.proofs.Common.{◌≡◌, ℕ, zero, suc, ℤ, true, List, [], ◌∷◌, ◌++◌, refl, subst, Option, Some}
 use Rattle.gimple_ir.specs.declared.program.Program.{Program}
-use Rattle.gimple_ir.specs.declared.statement.Stmt.{Stmt}
 use Rattle.gimple_core.specs.State.{State}
-use Rattle.gimple_core.specs.Run.{Moves, Did, Goes, Reaches, Transfer, perform, resumed, stepped, step, then_walk, walk, start}
-use Rattle.gimple_core.proofs.Simulation.{KeepsRest, perform_rest}
-use Rattle.gimple_core.specs.Trace.{Event, told_by, told, events_after, walk_events, events_on, events, main_entry, events_from, Trace, EachAfter, after}
-use Rattle.gimple_claims.proofs.Comes.{Comes, begins, goes, moves, InReached, AtEach, each_append, each_first, each_last, walk_step, same_told, in_run_of}
-use Rattle.gimple_claims.proofs.Points.{EachBefore}
-
-after_reaches : (p : Program) (made : Bool) (xs : List Stmt) (d : Did) → KeepsRest xs d → events_after d (walk_events p made xs) ≡ events_after d (λ t. walk_events p made t.top.rest t)
-after_reaches p made xs (Goes t) k = ap (λ ys. walk_events p made ys t) (sym k)
-after_reaches p made xs (Reaches r) k = refl
-
-then_reaches : (p : Program) (xs : List Stmt) (d : Did) → KeepsRest xs d → then_walk d (walk p xs) ≡ then_walk d (λ t. walk p t.top.rest t)
-then_reaches p xs (Goes t) k = ap (λ ys. walk p ys t) (sym k)
-then_reaches p xs (Reaches r) k = refl
-
-walk_tells : (p : Program) (made : Bool) (xs : List Stmt) (s : State) → walk_events p made xs s ≡ told_by p made xs s ++ events_after (stepped p s xs) (λ t. walk_events p made t.top.rest t)
-unfolding walk_events
-walk_tells p made [] s = sym (append-nil _)
-walk_tells p made (x ∷ xs) s = ap (λ es. told_by p made (x ∷ xs) s ++ es) (after_reaches p made xs (perform p x (resumed s xs)) (perform_rest p x (resumed s xs)))
-
-events_go : (p : Program) (s t : State) → step p s ≡ Goes t → (n : ℕ) → events p n s ≡ told p s ++ events p n t
-unfolding events
-events_go p s t e zero =
-    walk_tells p false s.top.rest s ∙ rw (same_told p false s.top.rest s t e, e) refl
-events_go p s t e (suc n) =
-    rw (walk_tells p true s.top.rest s, walk_step p s.top.rest s, e) (append_assoc (told p s) (walk_events p true t.top.rest t) (events_on (walk p t.top.rest t) (events p n)))
-
-events_move : (p : Program) (k : Transfer) (s t : State) → step p s ≡ Reaches (Moves k t) → (n : ℕ) → events p (suc n) s ≡ told p s ++ events p n t
-unfolding events
-events_move p k s t e n = rw (walk_tells p true s.top.rest s, walk_step p s.top.rest s, e, append-nil (told p s)) refl
+use Rattle.gimple_core.specs.Run.{step, walk, start}
+use Rattle.gimple_core.proofs.StepLemmas.{walk_tells, events_go, events_move}
+use Rattle.gimple_core.specs.Trace.{Event, told, events_after, walk_events, events_on, events, main_entry, events_from, Trace, EachAfter, after}
+use Rattle.gimple_claims.proofs.Comes.{Comes, begins, goes, moves, AtEach, each_first, each_last, in_run_of}
 
 begins_each : (p : Program) (Q : List Event → Event → Type 0) (n : ℕ) (s : State) (o : Option State) → o ≡ Some s → EachAfter Q [] (events_from p n o) → EachAfter Q (main_entry p s ∷ []) (events p n s)
 begins_each p Q n s o e a = let b : EachAfter Q [] (events_from p n (Some s)) = subst (λ o. EachAfter Q [] (events_from p n o)) e a in b.1
@@ -53,6 +27,10 @@ at_each p Q input all past s c =
     (subst (λ es. EachAfter Q past (es ++ events_on (walk p s.top.rest s) (events p zero))) (walk_tells p true s.top.rest s) (each_from p Q input all past s c (suc zero))))
 
 -- and of what happened before
+abbrev pub EachBefore : (List Event → Event → Type 0) → List Event → Type 0
+EachBefore Q [] = Unit {0}
+EachBefore Q (e ∷ es) = Q es e × EachBefore Q es
+
 grows : (Q : List Event → Event → Type 0) (past es : List Event) → EachBefore Q past → EachAfter Q past es → EachBefore Q (after past es)
 grows Q past [] h g = h
 grows Q past (e ∷ es) h g = grows Q (e ∷ past) es (g.0, h) g.1

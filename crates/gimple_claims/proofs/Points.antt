@@ -9,11 +9,12 @@ use Rattle.gimple_ir.specs.declared.statement.Stmt.{Stmt}
 use Rattle.gimple_core.specs.declared.machine.Cell.{Cell}
 use Rattle.gimple_core.specs.Memory.{Memory}
 use Rattle.gimple_core.specs.State.{Control, World, State}
-use Rattle.gimple_core.specs.Run.{Moves, Stops, Traps, Did, Goes, Reaches, CallEntry, CallReturn, Jump, resumed, stepped, step, start, given, block_at, block_place, place_or, control_made, cells_made}
-use Rattle.gimple_core.specs.Trace.{Event, Entry, At, Load, Store, Leave, told_by, told, access, accesses, crossing, main_entry, events_from, Trace, after, EachAfter, InEveryRun}
+use Rattle.gimple_core.specs.Run.{Moves, Stops, Traps, Did, Goes, Reaches, CallEntry, CallReturn, Jump, resumed, stepped, step, given, block_at, block_place, place_or, control_made, cells_made}
+use Rattle.gimple_core.specs.Trace.{Event, Entry, At, Load, Store, Leave, told_by, told, access, accesses, crossing, after, EachAfter, InEveryRun}
 use Rattle.gimple_claims.specs.Bodies.{Facts, MeetsAt, EachOf, Meets, BodyFlow, IsBlock, first, jumped, FactsClaim, StateAt, begin, next, Allows, IsSolution, IsSound, IsAt, PointsClaim}
 use Rattle.gimple_claims.proofs.Accesses.{access_all}
-use Rattle.gimple_claims.proofs.Comes.{Comes, begins, goes, moves, at_each, InDid, AtEach, each_append, in_every_run}
+use Rattle.gimple_claims.proofs.Comes.{Comes, InDid, AtEach, each_append, in_every_run}
+use Rattle.gimple_claims.proofs.OneRun.{EachBefore, each_before}
 use Rattle.gimple_claims.proofs.Activation.{Activation, here}
 
 -- ---- what the events tell
@@ -111,9 +112,9 @@ module _ {A : Type 0} (p : Program) (f : Function) (facts : Facts) (F : BodyFlow
   pub is_at : (input : List ℤ) (past : List Event) (s : State) → Comes p input past s → s.top.function ≡ f → Meets f facts s.top.serial past → IsAt f F sol s.top s.world.cells
   is_at input past s c same meets = here p input f Here Waits (keeps input) past s c same meets
 
--- ---- in every run
+-- ---- claims of the events at points
 
-abbrev NotAt : Event → Type 0
+abbrev pub NotAt : Event → Type 0
 NotAt (Entry s g arguments m caller) = Unit {0}
 NotAt (At c w) = ⊥
 NotAt (Load c scalar object offset v) = Unit {0}
@@ -128,47 +129,37 @@ crossing_quiet globals xs s (Reaches (Moves Jump t)) = tt
 crossing_quiet globals xs s (Reaches (Stops o z)) = (tt, tt)
 crossing_quiet globals xs s (Reaches (Traps o k)) = tt
 
-quiet_claim : {A : Type 0} (f : Function) (facts : Facts) (F : BodyFlow A) (sol : ℕ → Option A) (past : List Event) (e : Event) → NotAt e → PointsClaim f facts F sol past e
+-- a claim of the events at points alone
+abbrev pub IsQuiet : (List Event → Event → Type 0) → Type 0
+IsQuiet Q = (past : List Event) (e : Event) → NotAt e → Q past e
+
+quiet_each : (Q : List Event → Event → Type 0) → IsQuiet Q → (past es : List Event) → EachOf NotAt es → EachAfter Q past es
+quiet_each Q q past [] h = tt
+quiet_each Q q past (e ∷ es) h = (q past e h.0, quiet_each Q q (e ∷ past) es h.1)
+
+-- such a claim holds of what a state tells where it holds at the point
+pub points_each : (p : Program) (Q : List Event → Event → Type 0) (input : List ℤ) → IsQuiet Q → ((past : List Event) (s : State) → Comes p input past s → Q past (At s.top s.world)) → AtEach p input Q
+unfolding told_by
+points_each p Q input q at past s c = (
+  at past s c,
+  each_append Q _ (access p.globals s.top.rest s) _ (quiet_each Q q _ _ (access_all NotAt s (λ scalar f. tt) (λ scalar f v. tt) p.globals s.top.rest)) (quiet_each Q q _ _ (crossing_quiet p.globals s.top.rest s (stepped p s s.top.rest))),
+)
+
+quiet_claim : {A : Type 0} (f : Function) (facts : Facts) (F : BodyFlow A) (sol : ℕ → Option A) → IsQuiet (PointsClaim f facts F sol)
 quiet_claim f facts F sol past (Entry s g arguments m caller) n = tt
 quiet_claim f facts F sol past (At c w) n = absurd n
 quiet_claim f facts F sol past (Load c scalar object offset v) n = tt
 quiet_claim f facts F sol past (Store c scalar object offset v) n = tt
 quiet_claim f facts F sol past (Leave s) n = tt
 
-quiet_each : {A : Type 0} (f : Function) (facts : Facts) (F : BodyFlow A) (sol : ℕ → Option A) (past es : List Event) → EachOf NotAt es → EachAfter (PointsClaim f facts F sol) past es
-quiet_each f facts F sol past [] h = tt
-quiet_each f facts F sol past (e ∷ es) h = (quiet_claim f facts F sol past e h.0, quiet_each f facts F sol (e ∷ past) es h.1)
-
 points_at : {A : Type 0} (p : Program) (f : Function) (facts : Facts) (F : BodyFlow A) (sol : ℕ → Option A) → IsSolution f F sol → IsSound p f facts F → (input : List ℤ) → AtEach p input (PointsClaim f facts F sol)
-unfolding told_by
-points_at p f facts F sol solves sound input past s c = (
-  λ same meets. is_at p f facts F sol solves sound input past s c same meets,
-  each_append (PointsClaim f facts F sol) _ (access p.globals s.top.rest s) _ (quiet_each f facts F sol _ _ (access_all NotAt s (λ scalar f. tt) (λ scalar f v. tt) p.globals s.top.rest))
-      (quiet_each f facts F sol _ _ (crossing_quiet p.globals s.top.rest s (stepped p s s.top.rest))),
-)
+points_at p f facts F sol solves sound input = points_each p (PointsClaim f facts F sol) input (quiet_claim f facts F sol) (is_at p f facts F sol solves sound input)
 
 -- any solution of a sound analysis holds at the points of each activation that meets the facts
 pub points_claim : {A : Type 0} (p : Program) (f : Function) (facts : Facts) (F : BodyFlow A) (sol : ℕ → Option A) → IsSolution f F sol → IsSound p f facts F → InEveryRun p (PointsClaim f facts F sol)
 points_claim p f facts F sol solves sound = in_every_run p (PointsClaim f facts F sol) (λ input s e. tt) (points_at p f facts F sol solves sound)
 
 -- ---- facts that hold in every run
-
-abbrev pub EachBefore : (List Event → Event → Type 0) → List Event → Type 0
-EachBefore Q [] = Unit {0}
-EachBefore Q (e ∷ es) = Q es e × EachBefore Q es
-
-grows : (Q : List Event → Event → Type 0) (past es : List Event) → EachBefore Q past → EachAfter Q past es → EachBefore Q (after past es)
-grows Q past [] h g = h
-grows Q past (e ∷ es) h g = grows Q (e ∷ past) es (g.0, h) g.1
-
-first_claim : (p : Program) (Q : List Event → Event → Type 0) (s : State) (o : Option State) → o ≡ Some s → EachAfter Q [] (events_from p 0 o) → Q [] (main_entry p s)
-first_claim p Q s o e h = let g : EachAfter Q [] (events_from p 0 (Some s)) = subst (λ o. EachAfter Q [] (events_from p 0 o)) e h in g.0
-
-pub each_before : (p : Program) (Q : List Event → Event → Type 0) → InEveryRun p Q → (input : List ℤ) (past : List Event) (s : State) → Comes p input past s → EachBefore Q past
-unfolding Trace
-each_before p Q all input _ _ (begins s e) = (first_claim p Q s (start p input) e (all.each input 0), tt)
-each_before p Q all input _ _ (goes past s t c e) = grows Q past (told p s) (each_before p Q all input past s c) (at_each p Q all input past s c)
-each_before p Q all input _ _ (moves past k s t c e) = grows Q past (told p s) (each_before p Q all input past s c) (at_each p Q all input past s c)
 
 meets_at : (f : Function) (facts : Facts) (serial : ℕ) (past : List Event) (e : Event) → FactsClaim f facts past e → MeetsAt f facts serial e
 meets_at f facts serial past (Entry s g arguments m caller) h = λ same. h
@@ -184,4 +175,4 @@ meets_of f facts serial (e ∷ es) h = (meets_at f facts serial es e h.0, meets_
 -- where the facts hold in every run, each state of the function is at a reached point with its registers in the file
 pub is_always_at : {A : Type 0} (p : Program) (f : Function) (facts : Facts) (F : BodyFlow A) (sol : ℕ → Option A) → IsSolution f F sol → IsSound p f facts F → InEveryRun p (FactsClaim f facts) → (input : List ℤ) (past : List Event) (s : State) → Comes p input past s → s.top.function ≡ f → IsAt f F sol s.top s.world.cells
 is_always_at p f facts F sol solves sound all input past s c same =
-    is_at p f facts F sol solves sound input past s c same (meets_of f facts s.top.serial past (each_before p (FactsClaim f facts) all input past s c))
+    is_at p f facts F sol solves sound input past s c same (meets_of f facts s.top.serial past (each_before p (FactsClaim f facts) input (all.each input) past s c))

@@ -1,5 +1,5 @@
 -- A run that has ended or trapped comes to the same with more transfers.
-use Rattle.std.proofs.Common.{◌≡◌, ℕ, zero, suc, ◌+◌, ℤ, List, [], refl, sym, ◌∙◌, ap, subst, add-one, arith, Option, Some, None}
+use Rattle.std.proofs.Common.{◌≡◌, ℕ, zero, suc, ◌+◌, refl, sym, ◌∙◌, ap, subst, arith, Option, Some, None}
 use Rattle.gimple_ir.specs.declared.value.Outcome.{Outcome}
 use Rattle.gimple_ir.specs.declared.program.Program.{Program}
 use Rattle.gimple_core.specs.State.{State}

@@ -1,5 +1,5 @@
 -- What the checks of a program without a type fault say of its functions and of its runs.
-use Rattle.std.specs.Prelude.{◌≡◌, ℕ, ℤ, true, List, [], ◌∷◌, ◌++◌, map, Some, None, Ok}
+use Rattle.std.specs.Prelude.{◌≡◌, ℕ, ℤ, true, List, [], ◌∷◌, Some, None, Ok}
 use Rattle.gimple_ir.specs.declared.statement.Stmt.{Stmt}
 use Rattle.gimple_ir.specs.declared.block.Block.{Block}
 use Rattle.gimple_ir.specs.declared.program.Function.{Function}
@@ -7,23 +7,13 @@ use Rattle.gimple_ir.specs.declared.program.Program.{Program}
 use Rattle.gimple_core.specs.State.{State}
 use Rattle.gimple_core.specs.Run.{Calling, call_of, function_named, block_at}
 use Rattle.gimple_core.specs.Trace.{Event}
-use Rattle.gimple_core.specs.Env.{Env, Names, globals_by_name, functions_by_name, decls_by_name, registers_by_name}
+use Rattle.gimple_core.specs.Env.{Env, Names, functions_by_name}
+pub use Rattle.gimple_core.specs.Typed.{env_of}
 use Rattle.gimple_core.specs.Statements.{statement, ending}
 use Rattle.gimple_core.specs.Declarations.{has_blocks}
 use Rattle.gimple_core.specs.Accepted.{first_fault}
 use Rattle.gimple_claims.specs.Runs.{Comes}
 use Rattle.gimple_claims.specs.Exits.{ToLabel, exit_of}
-
--- what a function sees
-abbrev pub env_of : Program → Function → Env
-env_of p f = record {
-  structs = p.structs;
-  globals = globals_by_name p.globals;
-  locals = decls_by_name f.locals;
-  registers = registers_by_name f.params ++ registers_by_name f.registers;
-  labels = map (λ b. b.label) f.blocks;
-  result = f.result;
-}
 
 abbrev pub StmtsPass : Env → Names Function → List Stmt → Type 0
 StmtsPass env names [] = Unit {0}
