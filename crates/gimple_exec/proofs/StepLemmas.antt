@@ -6,6 +6,7 @@ use Rattle.gimple_ir.specs.declared.statement.Stmt.{Stmt}
 use Rattle.gimple_core.specs.State.{State}
 use Rattle.gimple_core.specs.Run.{Did, Goes, Reaches, Reached, finish, perform, step, stepped, walk, then_walk, resumed}
 use Rattle.gimple_core.proofs.Simulation.{KeepsRest, perform_rest}
+use Rattle.gimple_core.proofs.StepLemmas.{walk_step}
 use Rattle.gimple_exec.specs.declared.machine.Reach.{Reach}
 use Rattle.gimple_exec.specs.declared.machine.Machine.{Machine}
 use Rattle.gimple_exec.specs.Machines.{state_of, function_of, block_of, Arrives, ArrivesBy}
@@ -37,16 +38,6 @@ step_stmt p m b x e g =
     ap (stepped p (state_of p m)) rest ∙ rw add-one refl
 
 -- ---- walks
-
-then_rest : (p : Program) (xs : List Stmt) (d : Did) → KeepsRest xs d → then_walk d (walk p xs) ≡ then_walk d (λ t. walk p t.top.rest t)
-then_rest p xs (Goes t) k = ap (λ ys. walk p ys t) (sym k)
-then_rest p xs (Reaches r) k = refl
-
--- the walk is a step, and the walk from there
-walk_step : (p : Program) (xs : List Stmt) (s : State) → walk p xs s ≡ then_walk (stepped p s xs) (λ t. walk p t.top.rest t)
-unfolding walk
-walk_step p [] s = refl
-walk_step p (x ∷ xs) s = then_rest p xs (perform p x (resumed s xs)) (perform_rest p x (resumed s xs))
 
 -- the walk goes on from the state that a step goes to
 pub walk_goes : (p : Program) (s t : State) → step p s ≡ Goes t → walk p s.top.rest s ≡ walk p t.top.rest t
