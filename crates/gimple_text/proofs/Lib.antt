@@ -5,3 +5,4 @@ pub mod CanonLexes
 pub mod CanonSpelled
 pub mod Spelled
 pub mod Laws
+pub mod SizeLaws
