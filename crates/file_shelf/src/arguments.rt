@@ -1,5 +1,7 @@
 //! The words of the command line.
 
+ghost use Rattle.std.specs.Prelude.{◌≡◌};
+
 use shelf::Text;
 use std::alloc::{AllocError, AllocFailed};
 use std::env;
@@ -13,13 +15,17 @@ pub enum NoWords {
 }
 
 impl From<AllocError> for NoWords {
-    fn from(_: AllocError) -> NoWords {
+    fn from(_: AllocError) -> NoWords
+        ensures { result ≡ NoWords.Memory }
+    {
         NoWords::Memory
     }
 }
 
 impl<T: Drop> From<AllocFailed<T>> for NoWords {
-    fn from(_: AllocFailed<T>) -> NoWords {
+    fn from(_: AllocFailed<T>) -> NoWords
+        ensures { result ≡ NoWords.Memory }
+    {
         NoWords::Memory
     }
 }
