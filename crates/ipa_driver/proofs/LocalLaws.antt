@@ -11,9 +11,9 @@ use Rattle.token_law.specs.Reading.{Tokens}
 use Rattle.token_law.specs.Languages.{IsMany}
 use Rattle.gimple_grammar.specs.Grammar.{IsLocal, IsFunction}
 use Rattle.gimple_text.specs.Parse.{Spells}
+use Rattle.gimple_text.proofs.SizeLaws.{many_size, counted, lexed_from}
 use Rattle.ipa_driver.specs.Verdict.{LIMIT}
 use Rattle.ipa_driver.specs.Work.{HasFewLocals}
-use Rattle.ipa_driver.proofs.SizeLaws.{many_size, counted, lexed_from}
 
 local_size : (d : Decl) (ts : Tokens) → IsLocal d ts → 1 ≤ length ts
 local_size d ts h = omega (arith, ap length h)
