@@ -12,7 +12,7 @@ use Rattle.gimple_core.specs.Layout.{empty_layout, with_fields, struct_layouts}
 use Rattle.gimple_core.specs.Names.{same_name}
 use Rattle.gimple_core.proofs.EnvLemmas.{same_test}
 use Rattle.gimple_core.proofs.LayoutLemmas.{entry}
-use Rattle.gimple_types.specs.Sizes.{extent_of, definitions, first_layouts, IsKept, AreKept}
+use Rattle.gimple_types.specs.Sizes.{extent_of, field_starts, slots_before, definitions, first_layouts, IsKept, AreKept}
 use Rattle.gimple_types.specs.declared.structs.Kept.{Kept}
 use Rattle.gimple_types.proofs.TableLemmas.{is_key}
 
@@ -72,6 +72,8 @@ FoundIs known bound name None = find (is_named name) (take bound known) ≡ None
 FoundIs known bound name (Some k) = (k.extent ≡ extent_of (with_fields (take k.number known) empty_layout k.definition.now.fields))
     × (k.number < bound → find (is_named name) (take bound known) ≡ Some (entry (take k.number known) k.definition.now))
     × (bound ≤ k.number → find (is_named name) (take bound known) ≡ None)
+    × (k.starts.offsets.items ≡ field_starts (take k.number known) 0 k.definition.now.fields)
+    × (k.starts.slots.items ≡ slots_before (take k.number known) 0 k.definition.now.fields)
 
 found_here : (name : List ℕ) (bound : ℕ) (before : List KnownLayout) (e : Entry) (more : List KnownLayout) → IsKept before e → bytes_eq name e.0.now ≡ true → find (is_named name) before ≡ None → FoundIs (before ++ entry before e.1.definition.now ∷ more) bound name (Some e.1)
 found_here name bound before e more h b n =
@@ -81,6 +83,8 @@ found_here name bound before e more h b n =
       h.extent ∙ ap (λ ks. extent_of (with_fields ks empty_layout e.1.definition.now.fields)) (sym t),
       (λ l. let m : length before < bound = omega (arith, l, h.number) in take_finds (is_named name) before x more bound n test m ∙ ap (λ ks. Some (entry ks e.1.definition.now)) (sym t)),
       (λ l. let m : bound ≤ length before = omega (arith, l, h.number) in ap (find (is_named name)) (take-append-le bound before (x ∷ more) m) ∙ take_none (is_named name) before bound n),
+      h.offsets ∙ ap (λ ks. field_starts ks 0 e.1.definition.now.fields) (sym t),
+      h.slots ∙ ap (λ ks. slots_before ks 0 e.1.definition.now.fields) (sym t),
     )
 
 pub found_is : (name : List ℕ) (bound : ℕ) (before : List KnownLayout) (es : List Entry) → AreKept before es → find (is_named name) before ≡ None → FoundIs (struct_layouts before (definitions es)) bound name (lookup (is_key name) es)

@@ -8,3 +8,4 @@ pub mod ProgramLemmas
 pub mod KeptLemmas
 pub mod SolidLemmas
 pub mod FieldLemmas
+pub mod StartLemmas

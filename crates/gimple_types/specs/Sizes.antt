@@ -1,5 +1,5 @@
 -- Sizes of structs and variables, and what is kept of structs.
-use Rattle.std.specs.Prelude.{◌≡◌, ◌≤◌, ◌<◌, ℕ, ◌+◌, true, false, max, List, [], ◌∷◌, ◌++◌, map, length, take, find, Option, Some, None, slice_get, pos}
+use Rattle.std.specs.Prelude.{◌≡◌, ◌≤◌, ◌<◌, ℕ, ◌+◌, ◌-◌, true, false, max, List, [], ◌∷◌, ◌++◌, map, length, take, find, Option, Some, None, slice_get, slice_index_or, pos}
 use Rattle.std.specs.Option.{option_map}
 use Rattle.std.specs.Borrow.{Bor}
 use Rattle.gimple_ir.specs.declared.scalar.Scalar.{Scalar}
@@ -49,6 +49,16 @@ abbrev pub slots_after : List KnownLayout → ℕ → List Decl → List LayoutS
 slots_after known size [] = []
 slots_after known size (f ∷ fs) = moved (field_start known size f) (decl_layout known f).slots ++ slots_after known (field_end known size f) fs
 
+-- where each of these fields begins, behind so many bytes
+abbrev pub field_starts : List KnownLayout → ℕ → List Decl → List ℕ
+field_starts known size [] = []
+field_starts known size (f ∷ fs) = field_start known size f ∷ field_starts known (field_end known size f) fs
+
+-- how many slots stand before each of these fields, behind so many slots
+abbrev pub slots_before : List KnownLayout → ℕ → List Decl → List ℕ
+slots_before known n [] = []
+slots_before known n (f ∷ fs) = n ∷ slots_before known (n + length (decl_layout known f).slots) fs
+
 -- fields whose sizes are at most 2^24
 abbrev pub AreSmall : List KnownLayout → List Decl → Type 0
 AreSmall known [] = Unit {0}
@@ -79,6 +89,8 @@ pub record IsKept (before : List KnownLayout) (e : Bor (List ℕ) × Kept) : Typ
   pub number : e.1.number ≡ length before
   pub extent : e.1.extent ≡ extent_of (with_fields before empty_layout e.1.definition.now.fields)
   pub small : (with_fields before empty_layout e.1.definition.now.fields).size ≤ 16777216
+  pub offsets : e.1.starts.offsets.items ≡ field_starts before 0 e.1.definition.now.fields
+  pub slots : e.1.starts.slots.items ≡ slots_before before 0 e.1.definition.now.fields
 
 -- what is kept of structs behind these layouts
 abbrev pub AreKept : List KnownLayout → List (Bor (List ℕ) × Kept) → Type 0
@@ -91,8 +103,24 @@ IsFirst ss bound name None = find (λ k. same_name k.name name) (first_layouts b
 IsFirst ss bound name (Some kept) = (kept.number < bound)
     × (find (λ k. same_name k.name name) (first_layouts bound ss) ≡ Some (record { name = kept.definition.now.name; layout = with_fields (first_layouts kept.number ss) empty_layout kept.definition.now.fields }))
     × (kept.extent ≡ extent_of (with_fields (first_layouts kept.number ss) empty_layout kept.definition.now.fields))
+    × (kept.starts.offsets.items ≡ field_starts (first_layouts kept.number ss) 0 kept.definition.now.fields)
+    × (kept.starts.slots.items ≡ slots_before (first_layouts kept.number ss) 0 kept.definition.now.fields)
 
 -- ---- slots
+
+-- the field of this number is the last one that begins at a place or before it, and the rest is the way from there
+pub record IsLastFrom (fields : List Decl) (starts : List ℕ) (place : ℕ) (field : Decl) (rest : ℕ) (k : ℕ) : Type 0 where
+  pub within : k < length starts
+  pub field_is : (d : Decl) → field ≡ slice_index_or fields k d
+  pub begun : (d : ℕ) → slice_index_or starts k d ≤ place
+  pub rest_is : (d : ℕ) → rest ≡ place - slice_index_or starts k d
+  pub later : (i d : ℕ) → k < i → i < length starts → place < slice_index_or starts i d
+
+-- the last field of the struct of a number that begins at a place or before it
+abbrev pub IsFieldFrom : List Decl → List ℕ → ℕ → ℕ → Inside → Type 0
+IsFieldFrom fields starts own place (Slot scalar) = ⊥
+IsFieldFrom fields starts own place Nothing = (i d : ℕ) → i < length starts → place < slice_index_or starts i d
+IsFieldFrom fields starts own place (Field number field rest) = (number ≡ own) × ((k : ℕ) × IsLastFrom fields starts place field.now rest k)
 
 -- whether the slots at an offset are those of what was found there, where structs of a number and later ones are not looked at
 abbrev pub LeadsTo : List StructDef → List LayoutSlot → ℕ → ℕ → Inside → Type 0

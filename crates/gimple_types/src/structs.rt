@@ -1,13 +1,14 @@
 //! Structs, and how their variables lie in memory. Slots are not listed: a place in a variable is followed from field to field.
 
 ghost use Rattle.std.specs.Prelude.{◌≡◌, false, ◌+◌, ◌*◌, ◌<◌, ◌≤◌, ◌^◌, [], ◌∷◌, ◌++◌, length, nat_le, pos, OnOk, IfOk};
+ghost use Rattle.std.specs.List.Sorted.{IsNonDecreasing};
 ghost use Rattle.std.specs.Option.{option_copied};
 ghost use Rattle.gimple_core.specs.Layout.{empty_layout, with_fields, decl_layout, shape_layout, struct_layouts, layout_of, count_of, round_up};
 ghost use Rattle.gimple_core.specs.Env.{has, structs_by_name};
 ghost use Rattle.gimple_core.specs.Statements.{has_slot};
 ghost use Rattle.gimple_core.specs.Declarations as spec;
 ghost use Rattle.gimple_types.specs.Counts.{AreNarrow};
-ghost use Rattle.gimple_types.specs.Sizes.{extent_of, extent_with, first_layouts, slots_after, scalar_at, AreAmong, AreSmall, IsFirst, LeadsTo, NumberLeadsTo};
+ghost use Rattle.gimple_types.specs.Sizes.{extent_of, extent_with, field_start, field_starts, first_layouts, scalar_at, slots_before, AreAmong, AreSmall, IsFieldFrom, IsFirst, LeadsTo, NumberLeadsTo};
 ghost use Rattle.gimple_types.specs.Verdicts.{Becomes, Judges};
 
 use crate::names::Table;
@@ -26,6 +27,36 @@ pub(crate) struct Extent {
     pub(crate) slots: u64,
 }
 
+/// Where the fields of a struct begin, in order: at which byte each does, and how many slots stand before it.
+#[derive(Drop)]
+pub(crate) struct Starts {
+    pub(crate) offsets: Vec<u64>,
+    pub(crate) slots: Vec<u64>,
+}
+
+impl Starts {
+    /// No fields.
+    fn new(alloc: Heap) -> Starts
+        ensures offsets { result.offsets.items ≡ [] }
+        ensures slots { result.slots.items ≡ [] }
+    {
+        Starts {
+            offsets: Vec::new(alloc),
+            slots: Vec::new(alloc),
+        }
+    }
+
+    /// Adds a field.
+    fn push(&mut self, offset: u64, slot: u64) -> Result<(), OutOfMemory>
+        ensures offsets { OnOk result (self.new.offsets.items ≡ self.old.offsets.items ++ offset ∷ []) }
+        ensures slots { OnOk result (self.new.slots.items ≡ self.old.slots.items ++ slot ∷ []) }
+    {
+        self.offsets.push(offset)?;
+        self.slots.push(slot)?;
+        Ok(())
+    }
+}
+
 /// A struct that passed its checks.
 #[derive(Drop)]
 pub(crate) struct Kept<'a> {
@@ -33,6 +64,7 @@ pub(crate) struct Kept<'a> {
     /// How many structs stand before it.
     pub(crate) number: usize,
     pub(crate) extent: Extent,
+    pub(crate) starts: Starts,
 }
 
 /// What stands at a place in a variable: a slot, nothing, or a place in a field of a struct of a number.
@@ -216,36 +248,14 @@ impl<'a> Structs<'a> {
                 Inside::Nothing
             }
             Shape::Named(name) => match self.found(bound, name) {
-                Some(kept) => self.field_at(kept.number, kept.definition.fields.as_slice(), within),
+                Some(kept) => {
+                    let fields = kept.definition.fields.as_slice();
+                    let offsets = kept.starts.offsets.as_slice();
+                    field_from(kept.number, fields, offsets, within)
+                }
                 None => Inside::Nothing,
             },
         }
-    }
-
-    /// The field of the struct of a number that lies at an offset.
-    fn field_at(&self, number: usize, fields: &'a [Decl], offset: u64) -> Inside<'a>
-        requires { offset < 2 ^ 63 }
-        ensures { LeadsTo self.now (slots_after (first_layouts number self.now) 0 fields.now) offset (number + 1) result }
-    {
-        let _ = &self.map;
-        let mut size = 0;
-        for field in fields {
-            let one = self.extent_before(number, &field.shape);
-            let start = next_multiple(size, one.align);
-            if offset < start {
-                return Inside::Nothing;
-            }
-            let end = end_of(start, count_of(field.length), one.size);
-            if u128::from(offset) < end {
-                return Inside::Field {
-                    number,
-                    field,
-                    rest: offset - start,
-                };
-            }
-            size = end as u64;
-        }
-        Inside::Nothing
     }
 
     /// The scalar of a variable's slot of this number, counted from 0; None exactly past the last slot.
@@ -286,31 +296,12 @@ impl<'a> Structs<'a> {
             Shape::Named(name) => match self.found(bound, name) {
                 Some(kept) => {
                     let fields = kept.definition.fields.as_slice();
-                    self.field_numbered(kept.number, fields, within)
+                    let starts = kept.starts.slots.as_slice();
+                    field_from(kept.number, fields, starts, within)
                 }
                 None => Inside::Nothing,
             },
         }
-    }
-
-    /// The field of the struct of a number in which the slot of a number lies.
-    fn field_numbered(&self, number: usize, fields: &'a [Decl], index: u64) -> Inside<'a>
-        ensures { NumberLeadsTo self.now (slots_after (first_layouts number self.now) 0 fields.now) index (number + 1) result }
-    {
-        let mut index = index;
-        for field in fields {
-            let one = self.extent_before(number, &field.shape);
-            let slots = end_of(0, count_of(field.length), one.slots);
-            if u128::from(index) < slots {
-                return Inside::Field {
-                    number,
-                    field,
-                    rest: index,
-                };
-            }
-            index -= slots as u64;
-        }
-        Inside::Nothing
     }
 
     /// The struct that a field names is an earlier one.
@@ -347,31 +338,42 @@ impl<'a> Structs<'a> {
         Ok(())
     }
 
-    /// An extent with one more field.
-    fn with_field(&self, whole: Extent, field: &'a Decl) -> Extent
+    /// An extent with one more field, whose start is added to those of the fields before it.
+    fn with_field(
+        &self,
+        starts: &mut Starts,
+        whole: Extent,
+        field: &'a Decl,
+    ) -> Result<Extent, OutOfMemory>
         requires size { whole.size < 2 ^ 62 }
         requires dense { whole.slots ≤ whole.size }
         requires small { (decl_layout (struct_layouts [] self.now) field.now).size ≤ 16777216 }
-        ensures same { result ≡ extent_with (struct_layouts [] self.now) whole field.now }
-        ensures near { result.size ≤ whole.size + 16777224 }
-        ensures dense { result.slots ≤ result.size }
-        ensures least { whole.align ≤ result.align }
-        ensures most { whole.align ≤ 8 → result.align ≤ 8 }
+        ensures same { IfOk result (λ e. e ≡ extent_with (struct_layouts [] self.now) whole field.now) }
+        ensures near { IfOk result (λ e. e.size ≤ whole.size + 16777224) }
+        ensures dense { IfOk result (λ e. e.slots ≤ e.size) }
+        ensures least { IfOk result (λ e. whole.align ≤ e.align) }
+        ensures most { IfOk result (λ e. whole.align ≤ 8 → e.align ≤ 8) }
+        ensures offsets { OnOk result (starts.new.offsets.items ≡ starts.old.offsets.items ++ field_start (struct_layouts [] self.now) whole.size field.now ∷ []) }
+        ensures slots { OnOk result (starts.new.slots.items ≡ starts.old.slots.items ++ whole.slots ∷ []) }
     {
         let one = self.extent(&field.shape);
         let count = count_of(field.length);
-        Extent {
-            size: next_multiple(whole.size, one.align) + count * one.size,
+        let offset = next_multiple(whole.size, one.align);
+        starts.push(offset, whole.slots)?;
+        Ok(Extent {
+            size: offset + count * one.size,
             align: whole.align.max(one.align),
             slots: whole.slots + count * one.slots,
-        }
+        })
     }
 
-    /// The extent of a struct of these fields behind these structs.
-    fn of_fields(&self, fields: &'a [Decl]) -> Extent
+    /// The extent of a struct of these fields behind these structs, and where each field begins.
+    fn of_fields(&self, starts: &mut Starts, fields: &'a [Decl]) -> Result<Extent, OutOfMemory>
         requires few { length fields.now < 2 ^ 32 }
         requires small { AreSmall (struct_layouts [] self.now) fields.now }
-        ensures { result ≡ extent_of (with_fields (struct_layouts [] self.now) empty_layout fields.now) }
+        ensures extent { IfOk result (λ e. e ≡ extent_of (with_fields (struct_layouts [] self.now) empty_layout fields.now)) }
+        ensures offsets { OnOk result (starts.new.offsets.items ≡ starts.old.offsets.items ++ field_starts (struct_layouts [] self.now) 0 fields.now) }
+        ensures slots { OnOk result (starts.new.slots.items ≡ starts.old.slots.items ++ slots_before (struct_layouts [] self.now) 0 fields.now) }
     {
         let mut whole = Extent {
             size: 0,
@@ -380,14 +382,14 @@ impl<'a> Structs<'a> {
         };
         let mut rest = fields;
         while let [next, after @ ..] = rest {
-            whole = self.with_field(whole, next);
+            whole = self.with_field(starts, whole, next)?;
             rest = after;
         }
-        Extent {
+        Ok(Extent {
             size: next_multiple(whole.size, whole.align),
             align: whole.align,
             slots: whole.slots,
-        }
+        })
     }
 
     /// Adds a struct, after its checks.
@@ -408,26 +410,52 @@ impl<'a> Structs<'a> {
         let fields = definition.fields.as_slice();
         self.fields(alloc, all, fields)?;
         demand(!definition.fields.is_empty(), 12)?;
-        let extent = self.of_fields(fields);
+        let mut starts = Starts::new(alloc);
+        let extent = self.of_fields(&mut starts, fields)?;
         demand(extent.size <= 16777216, 12)?;
-        self.keep(definition, extent)?;
+        self.keep(definition, extent, starts)?;
         Ok(())
     }
 
-    /// Keeps a struct of a new name, with its extent.
-    fn keep(&mut self, definition: &'a StructDef, extent: Extent) -> Result<(), OutOfMemory>
+    /// Keeps a struct of a new name, with its extent and where its fields begin.
+    fn keep(
+        &mut self,
+        definition: &'a StructDef,
+        extent: Extent,
+        starts: Starts,
+    ) -> Result<(), OutOfMemory>
         requires new { has definition.now.name (structs_by_name self.old) ≡ false }
         requires same { extent ≡ extent_of (with_fields (struct_layouts [] self.old) empty_layout definition.now.fields) }
         requires small { extent.size ≤ 16777216 }
+        requires offsets { starts.offsets.items ≡ field_starts (struct_layouts [] self.old) 0 definition.now.fields }
+        requires slots { starts.slots.items ≡ slots_before (struct_layouts [] self.old) 0 definition.now.fields }
         ensures { OnOk result (self.new ≡ self.old ++ definition.now ∷ []) }
     {
         let kept = Kept {
             definition,
             number: self.map.len(),
             extent,
+            starts,
         };
         self.map.insert(definition.name.as_slice(), kept)?;
         Ok(())
+    }
+}
+
+/// The last field of the struct of a number that begins at a place or before it, where the fields begin at these places.
+fn field_from<'a>(number: usize, fields: &'a [Decl], starts: &[u64], place: u64) -> Inside<'a>
+    requires ascending { IsNonDecreasing starts.now }
+    requires each { length starts.now ≡ length fields.now }
+    ensures { IsFieldFrom fields.now starts.now number place result }
+{
+    let behind = starts.partition_point(|start| *start <= place);
+    if behind == 0 {
+        return Inside::Nothing;
+    }
+    Inside::Field {
+        number,
+        field: &fields[behind - 1],
+        rest: place - starts[behind - 1],
     }
 }
 

@@ -8,7 +8,7 @@ returns-then-kept-bound c =
     let h : FoundIs (struct_layouts [] c.args.self.now) c.args.bound c.as_slice.result.now (Some c.in-Some.kept.now) = first_of c.args.self.now c.args.bound c.as_slice.result.now c.self.inside.map.entries (Some c.in-Some.kept.now) c.self.view_is c.self.invariant c.in-Some.ensures.value in
     let j : FoundIs (struct_layouts [] c.args.self.now) c.args.bound c.args.name.now (Some c.in-Some.kept.now) = subst (λ n. FoundIs (struct_layouts [] c.args.self.now) c.args.bound n (Some c.in-Some.kept.now)) c.as_slice.ensures h in
     let l : c.in-Some.kept.now.number < c.args.bound = search rules in
-    (l, j.1 l, j.0)
+    (l, j.1 l, j.0, j.3, j.4)
 
 pub returns-else-kept-bound : goal.returns-else-kept-bound
 returns-else-kept-bound c =

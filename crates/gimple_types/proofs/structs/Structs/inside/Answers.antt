@@ -1,13 +1,14 @@
-use Rattle.std.proofs.Common.{rules, ◌≡◌, ◌<◌, ◌≤◌, ◌+◌, ◌*◌, ◌%◌, ◌∙◌, pos, ap, sym, arith}
+use Rattle.std.proofs.Common.{rules, ◌≡◌, ◌<◌, ◌≤◌, ◌+◌, ◌*◌, ◌%◌, ◌∙◌, length, pos, ap, sym, subst, arith}
+use Rattle.std.specs.List.Sorted.{IsNonDecreasing}
 use Rattle.gimple_ir.specs.declared.declarations.Shape.{Shape}
 use Rattle.gimple_ir.specs.declared.value.Layout.{Layout}
 use Rattle.gimple_core.specs.Layout.{shape_layout, count_of, repeated}
 use Rattle.gimple_core.specs.Statements.{has_slot}
-use Rattle.gimple_types.specs.Sizes.{first_layouts, slots_after}
+use Rattle.gimple_types.specs.Sizes.{first_layouts, slots_after, IsFieldFrom}
 use Rattle.gimple_types.specs.declared.structs.Extent.{Extent}
-use Rattle.gimple_types.proofs.FieldLemmas.{plain_at, plain_not, named_slots, leads_within}
+use Rattle.gimple_types.proofs.FieldLemmas.{plain_at, plain_not, named_slots, leads_within, field_leads, starts_ascend, starts_length}
 use Rattle.gimple_types.proofs.SizeLemmas.{has_behind, has_within}
-use Rattle.gimple_types.proofs.SolidLemmas.{shape_solid, first_solid}
+use Rattle.gimple_types.proofs.SolidLemmas.{shape_solid, first_solid, lawful_all}
 use Rattle.gimple_types.proofs.structs.Structs.inside.Goals as goal
 
 pub returns-then-offset-end_of : goal.returns-then-offset-end_of
@@ -76,7 +77,22 @@ returns-in-Some c =
     let named : l.slots ≡ slots_after before 0 s.fields = named_slots known before shape c.in-Named.name s c.in-Named.is c.in-Some.ensures.1 in
     let first : kept.number < c.args.bound = c.in-Some.ensures.0 in
     let lower : kept.number + 1 ≤ c.args.bound = omega (arith, first) in
-    leads_within c.args.self.now (repeated n l.size l.slots) (slots_after before 0 c.as_slice.result.now) o (o % c.from.result) c.args.bound (kept.number + 1) c.field_at.result
-    (λ scalar. sym (has_within n l.size o l.slots scalar w u) ∙ ap (λ x. has_slot l.slots (pos x) scalar) (sym z) ∙ ap (λ ks. has_slot ks (pos (o % c.from.result)) scalar) named
-    ∙ ap (λ fs. has_slot (slots_after before 0 fs) (pos (o % c.from.result)) scalar) (sym c.as_slice.ensures))
-    lower c.field_at.ensures
+    let fields = c.as_slice-fields.ensures in
+    let offsets = c.as_slice-offsets.ensures.value ∙ c.in-Some.ensures.3 in
+    leads_within c.args.self.now (repeated n l.size l.slots) (slots_after before 0 s.fields) o (o % c.from.result) c.args.bound (kept.number + 1) c.field_from.result
+    (λ scalar. sym (has_within n l.size o l.slots scalar w u) ∙ ap (λ x. has_slot l.slots (pos x) scalar) (sym z) ∙ ap (λ ks. has_slot ks (pos (o % c.from.result)) scalar) named)
+    lower (field_leads c.args.self.now s.fields c.as_slice-offsets.result.now kept.number (o % c.from.result) c.field_from.result
+    (lawful_all before (first_solid c.self.inside.map.entries c.args.self.now kept.number c.self.view_is c.self.invariant)) offsets
+    (subst (λ fs. IsFieldFrom fs c.as_slice-offsets.result.now kept.number (o % c.from.result) c.field_from.result) fields c.field_from.ensures))
+
+pub field_from-requires-clause-ascending : goal.field_from-requires-clause-ascending
+field_from-requires-clause-ascending c =
+    let kept = c.in-Some.kept.now in
+    let before = first_layouts kept.number c.args.self.now in
+    let lawful = lawful_all before (first_solid c.self.inside.map.entries c.args.self.now kept.number c.self.view_is c.self.invariant) in
+    subst IsNonDecreasing (sym (c.as_slice-offsets.ensures.value ∙ c.in-Some.ensures.3)) (starts_ascend before kept.definition.now.fields 0 lawful)
+
+pub field_from-requires-clause-each : goal.field_from-requires-clause-each
+field_from-requires-clause-each c =
+    let kept = c.in-Some.kept.now in
+    ap length (c.as_slice-offsets.ensures.value ∙ c.in-Some.ensures.3) ∙ starts_length (first_layouts kept.number c.args.self.now) kept.definition.now.fields 0 ∙ ap length (sym c.as_slice-fields.ensures)

@@ -3,7 +3,7 @@ use Rattle.indexmap.proofs.CallerLemmas.{insert_entry-new}
 use Rattle.gimple_ir.specs.declared.declarations.StructDef.{StructDef}
 use Rattle.gimple_core.specs.Env.{has, structs_by_name}
 use Rattle.gimple_core.specs.Layout.{empty_layout, with_fields, struct_layouts}
-use Rattle.gimple_types.specs.Sizes.{extent_of, definitions, IsKept, AreKept}
+use Rattle.gimple_types.specs.Sizes.{extent_of, field_starts, slots_before, definitions, IsKept, AreKept}
 use Rattle.gimple_types.specs.declared.structs.Extent.{Extent}
 use Rattle.gimple_types.specs.declared.structs.Kept.{Kept}
 use Rattle.gimple_types.proofs.KeptLemmas.{has_is, known_length, kept_added, definitions_added}
@@ -15,7 +15,7 @@ invariant_of-self-2 c =
     let es = c.self.inside.map.entries in
     let s : StructDef = c.args.definition.now in
     let key : Bor (List ℕ) = c.as_slice.result in
-    let kept : Kept = record { definition = c.args.definition; number = c.len.result; extent = c.args.extent } in
+    let kept : Kept = record { definition = c.args.definition; number = c.len.result; extent = c.args.extent; starts = c.args.starts } in
     let gone = no_value _ (has_is key.now [] es c.self.invariant ∙ ap (λ ss. has key.now (structs_by_name ss)) c.self.view_is ∙ ap (λ n. has n (structs_by_name c.args.self.now)) c.as_slice.ensures ∙ c.requires.new) in
     let new : c.insert.new.self.entries ≡ es ++ (key, kept) ∷ [] = c.in_ok-insert.ensures.entries ∙ insert_entry-new _ c.self.inside.map key kept gone in
     let e : c.args.extent ≡ extent_of (with_fields (struct_layouts [] (definitions es)) empty_layout s.fields) =
@@ -23,7 +23,9 @@ invariant_of-self-2 c =
     let f : c.args.extent.size ≡ (with_fields (struct_layouts [] (definitions es)) empty_layout s.fields).size = ap (λ (x : Extent). x.size) e in
     let l : c.args.extent.size ≤ 16777216 = c.requires.small in
     let small : (with_fields (struct_layouts [] (definitions es)) empty_layout s.fields).size ≤ 16777216 = omega (arith, f, l) in
-    let one : IsKept (struct_layouts [] (definitions es)) (key, kept) = record { name = c.as_slice.ensures; number = c.len.ensures.len ∙ known_length es; extent = e; small = small } in
+    let offsets : c.args.starts.offsets.items ≡ field_starts (struct_layouts [] (definitions es)) 0 s.fields = c.requires.offsets ∙ ap (λ ss. field_starts (struct_layouts [] ss) 0 s.fields) (sym c.self.view_is) in
+    let slots : c.args.starts.slots.items ≡ slots_before (struct_layouts [] (definitions es)) 0 s.fields = c.requires.slots ∙ ap (λ ss. slots_before (struct_layouts [] ss) 0 s.fields) (sym c.self.view_is) in
+    let one : IsKept (struct_layouts [] (definitions es)) (key, kept) = record { name = c.as_slice.ensures; number = c.len.ensures.len ∙ known_length es; extent = e; small = small; offsets = offsets; slots = slots } in
     subst (AreKept []) (sym new) (kept_added [] es (key, kept) c.self.invariant one)
 
 pub returns : goal.returns
@@ -31,7 +33,7 @@ returns c =
     let es = c.self.inside.map.entries in
     let s : StructDef = c.args.definition.now in
     let key : Bor (List ℕ) = c.as_slice.result in
-    let kept : Kept = record { definition = c.args.definition; number = c.len.result; extent = c.args.extent } in
+    let kept : Kept = record { definition = c.args.definition; number = c.len.result; extent = c.args.extent; starts = c.args.starts } in
     let gone = no_value _ (has_is key.now [] es c.self.invariant ∙ ap (λ ss. has key.now (structs_by_name ss)) c.self.view_is ∙ ap (λ n. has n (structs_by_name c.args.self.now)) c.as_slice.ensures ∙ c.requires.new) in
     let new : c.insert.new.self.entries ≡ es ++ (key, kept) ∷ [] = c.in_ok-insert.ensures.entries ∙ insert_entry-new _ c.self.inside.map key kept gone in
     ap definitions new ∙ definitions_added es (key, kept) ∙ ap (λ ss. ss ++ s ∷ []) c.self.view_is

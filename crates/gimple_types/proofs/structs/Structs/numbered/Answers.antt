@@ -1,11 +1,12 @@
-use Rattle.std.proofs.Common.{rules, ◌≡◌, ◌<◌, ◌≤◌, ◌+◌, ◌*◌, ◌%◌, ◌∙◌, length, ap, sym, arith}
+use Rattle.std.proofs.Common.{rules, ◌≡◌, ◌<◌, ◌≤◌, ◌+◌, ◌*◌, ◌%◌, ◌∙◌, length, ap, sym, subst, arith}
+use Rattle.std.specs.List.Sorted.{IsNonDecreasing}
 use Rattle.gimple_ir.specs.declared.declarations.Shape.{Shape}
 use Rattle.gimple_ir.specs.declared.value.Layout.{Layout}
 use Rattle.gimple_core.specs.Layout.{shape_layout, count_of, repeated}
-use Rattle.gimple_types.specs.Sizes.{first_layouts, slots_after, scalar_at}
+use Rattle.gimple_types.specs.Sizes.{first_layouts, slots_after, scalar_at, IsFieldFrom}
 use Rattle.gimple_types.specs.declared.structs.Extent.{Extent}
 use Rattle.gimple_types.proofs.FieldLemmas.{plain_scalar, named_slots, number_leads_within}
-use Rattle.gimple_types.proofs.ItemLemmas.{repeated_scalar, no_repeated_scalar}
+use Rattle.gimple_types.proofs.ItemLemmas.{repeated_scalar, no_repeated_scalar, number_field_leads, before_ascend, before_length}
 use Rattle.gimple_types.proofs.structs.Structs.numbered.Goals as goal
 
 pub returns-then-from-end_of : goal.returns-then-from-end_of
@@ -53,7 +54,19 @@ returns-in-Some c =
     let named : l.slots ≡ slots_after before 0 s.fields = named_slots known before shape c.in-Named.name s c.in-Named.is c.in-Some.ensures.1 in
     let first : kept.number < c.args.bound = c.in-Some.ensures.0 in
     let lower : kept.number + 1 ≤ c.args.bound = omega (arith, first) in
-    number_leads_within c.args.self.now (repeated n l.size l.slots) (slots_after before 0 c.as_slice-fields.result.now) i (i % c.extent_before-slots.result.slots) c.args.bound (kept.number + 1) c.field_numbered.result
-    (repeated_scalar n l.size i l.slots u ∙ ap (scalar_at l.slots) (sym z) ∙ ap (λ ks. scalar_at ks (i % c.extent_before-slots.result.slots)) named
-    ∙ ap (λ fs. scalar_at (slots_after before 0 fs) (i % c.extent_before-slots.result.slots)) (sym c.as_slice-fields.ensures))
-    lower c.field_numbered.ensures
+    let fields = c.as_slice-fields.ensures in
+    let starts = c.as_slice-starts.ensures.value ∙ c.in-Some.ensures.4 in
+    number_leads_within c.args.self.now (repeated n l.size l.slots) (slots_after before 0 s.fields) i (i % c.extent_before-slots.result.slots) c.args.bound (kept.number + 1) c.field_from.result
+    (repeated_scalar n l.size i l.slots u ∙ ap (scalar_at l.slots) (sym z) ∙ ap (λ ks. scalar_at ks (i % c.extent_before-slots.result.slots)) named)
+    lower (number_field_leads c.args.self.now s.fields c.as_slice-starts.result.now kept.number (i % c.extent_before-slots.result.slots) c.field_from.result starts
+    (subst (λ fs. IsFieldFrom fs c.as_slice-starts.result.now kept.number (i % c.extent_before-slots.result.slots) c.field_from.result) fields c.field_from.ensures))
+
+pub field_from-requires-clause-ascending : goal.field_from-requires-clause-ascending
+field_from-requires-clause-ascending c =
+    let kept = c.in-Some.kept.now in
+    subst IsNonDecreasing (sym (c.as_slice-starts.ensures.value ∙ c.in-Some.ensures.4)) (before_ascend (first_layouts kept.number c.args.self.now) kept.definition.now.fields 0)
+
+pub field_from-requires-clause-each : goal.field_from-requires-clause-each
+field_from-requires-clause-each c =
+    let kept = c.in-Some.kept.now in
+    ap length (c.as_slice-starts.ensures.value ∙ c.in-Some.ensures.4) ∙ before_length (first_layouts kept.number c.args.self.now) kept.definition.now.fields 0 ∙ ap length (sym c.as_slice-fields.ensures)

@@ -15,8 +15,8 @@ returns-clause-same c =
     let b : c.extent-one.result.align ≡ one.align = ap (λ (e : Extent). e.align) c.extent-one.ensures.same in
     let s : c.extent-one.result.slots ≡ length one.slots = ap (λ (e : Extent). e.slots) c.extent-one.ensures.same in
     let k : c.count_of-count.result ≡ count_of f.length = c.count_of-count.ensures in
-    let r : c.next_multiple.result ≡ round_up n one.align = c.next_multiple.ensures.same ∙ ap (round_up n) b in
-    let size : c.next_multiple.result + c.count_of-count.result * c.extent-one.result.size ≡ field_end known n f =
+    let r : c.next_multiple-offset.result ≡ round_up n one.align = c.next_multiple-offset.ensures.same ∙ ap (round_up n) b in
+    let size : c.next_multiple-offset.result + c.count_of-count.result * c.extent-one.result.size ≡ field_end known n f =
     ap (λ x. x + c.count_of-count.result * c.extent-one.result.size) r ∙ ap (λ x. round_up n one.align + x * c.extent-one.result.size) k ∙ ap (λ x. round_up n one.align + count_of f.length * x) a in
     let align : c.max.result ≡ max c.args.whole.align (decl_layout known f).align = search rules in
     let slots : c.args.whole.slots + c.count_of-count.result * c.extent-one.result.slots ≡ c.args.whole.slots + length (decl_layout known f).slots =
