@@ -7,8 +7,6 @@ use Rattle.std.proofs.lemmas.Bool.{cases_lt, cond_both, ltb-true, ltb-false, lt-
 use Rattle.std.proofs.lemmas.Bool.Decides.{nat_tests}
 use Rattle.std.proofs.lemmas.List.{get_or_default, get_or_append_left, get_or_push, length_push, length-set, get_or-set_same, get_or-set_other, get_or-take, length-take-le}
 use Rattle.gimple_ir.specs.declared.value.Object.{Object}
-use Rattle.gimple_ir.specs.declared.value.Object.TheVariants.{Global, Local}
-use Rattle.gimple_core.specs.Memory.{same_object}
 use Rattle.gimple_exec.specs.Order.{rank, precedes, IsOrdered, Follows, IsSplit, IsLatest}
 use Rattle.gimple_exec.specs.Places.{IsPlace}
 use Rattle.gimple_exec.proofs.AssignedLemmas.{NoneBefore}
@@ -28,15 +26,9 @@ pub precedes_rank : (a b : Object) (i j : ℕ) → precedes a i b j ≡ true →
 unfolding precedes
 precedes_rank a b i j e = grind (arith, nat_tests)
 
-pub same_is : (a b : Object) → same_object a b ≡ true → a ≡ b
-same_is (Global k) (Global j) e = grind (arith, nat_tests)
-same_is (Global k) (Local t j) e = absurd (false≢true e)
-same_is (Local s k) (Global j) e = absurd (false≢true e)
-same_is (Local s k) (Local t j) e = grind (arith, nat_tests)
-
 -- ---- what an ordered list keeps
 
-abbrev Chains : {X : Type 0} → (X → X → Bool) → Type 0
+abbrev pub Chains : {X : Type 0} → (X → X → Bool) → Type 0
 Chains {X} before = (x y z : X) → before x y ≡ true → before y z ≡ true → before x z ≡ true
 
 pub ordered_none : {X : Type 0} (before : X → X → Bool) → IsOrdered before []
@@ -142,7 +134,7 @@ ordered_pushed before chains xs ys y b e h last =
 
 -- ---- frames in an ordered list
 
-abbrev Ranks : {X : Type 0} → (X → Object) → (X → X → Bool) → Type 0
+abbrev pub Ranks : {X : Type 0} → (X → Object) → (X → X → Bool) → Type 0
 Ranks {X} object before = (x y : X) → before x y ≡ true → rank (object x) ≤ rank (object y)
 
 ranks_rise : {X : Type 0} (object : X → Object) (before : X → X → Bool) → Ranks object before → (xs : List X) → IsOrdered before xs → (i j : ℕ) (d : X) → i ≤ j → j < length xs → rank (object (get_or xs i d)) ≤ rank (object (get_or xs j d))

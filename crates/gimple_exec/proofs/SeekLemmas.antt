@@ -1,72 +1,72 @@
 -- The tests that find a slot and an extent.
-use Rattle.std.proofs.Common.{◌≡◌, ◌∙◌, ap, sym, refl, ℕ, ◌+◌, ◌<◌, ◌≤◌, ◌==◌, ◌&&◌, Bool, true, false, List, ◌∷◌, [], Some, None, length, get_or, set, take, arith}
+use Rattle.std.proofs.Common.{◌≡◌, ◌∙◌, ap, sym, refl, subst, ℕ, ◌+◌, ◌<◌, ◌≤◌, ◌==◌, ◌&&◌, Bool, true, false, if◌then◌else◌, List, ◌∷◌, [], None, Some, get_or, set, take, arith}
 use mathlib.Core.Bool.{false≢true}
 use Rattle.std.specs.List.{find, filter}
+use Rattle.std.proofs.lemmas.Bool.{cond_both}
 use Rattle.std.proofs.lemmas.Bool.Decides.{nat_tests}
 use Rattle.std.proofs.lemmas.List.Quantifiers.{position-Some}
 use Rattle.gimple_ir.specs.declared.scalar.Scalar.{Scalar}
 use Rattle.gimple_ir.specs.declared.value.Value.{Value}
-use Rattle.gimple_ir.specs.declared.value.Value.TheVariants.{Null}
 use Rattle.gimple_ir.specs.declared.value.Object.{Object}
 use Rattle.gimple_ir.specs.declared.value.Object.TheVariants.{Global, Local}
-use Rattle.gimple_core.specs.declared.machine.Extent.{Extent}
 use Rattle.gimple_core.specs.declared.machine.MemorySlot.{MemorySlot}
-use Rattle.gimple_core.specs.Memory.{same_object, is_slot, is_elsewhere, put_slot}
+use Rattle.gimple_core.specs.Memory.{same_object, same_scalar, is_slot, is_elsewhere, put_slot}
 use Rattle.gimple_core.specs.Names.{update_first}
-use Rattle.gimple_exec.specs.Order.{rank, precedes, slot_precedes, extent_precedes, IsOrdered, IsSplit, IsLatest}
+use Rattle.gimple_core.proofs.ScalarLemmas.{same_scalar_true}
+use Rattle.gimple_exec.specs.Order.{rank, precedes, comes_before, IsOrdered, IsSplit, IsLatest}
+use Rattle.gimple_exec.specs.PlacedLemmas.{right_of, slot_there}
 use Rattle.gimple_exec.specs.Places.{IsFirstAt}
 use Rattle.gimple_exec.proofs.AssignedLemmas.{update_first_at}
-use Rattle.gimple_exec.proofs.OrderLemmas.{Seeks, refuted, same_is, precedes_self, precedes_next, ordered_set, filter_front, all_latest}
+use Rattle.gimple_exec.proofs.OrderLemmas.{Chains, Ranks, Seeks, refuted, precedes_self, precedes_next, precedes_rank, ordered_set, filter_front, all_latest}
 
-left_of : (a b : Bool) → (a && b) ≡ true → a ≡ true
-left_of true b e = refl
-left_of false b e = absurd (false≢true e)
+-- ---- what is placed in objects
 
-right_of : (a b : Bool) → (a && b) ≡ true → b ≡ true
-right_of true b e = e
-right_of false b e = absurd (false≢true e)
+pub placed_chains : {X : Type 0} (object : X → Object) (offset : X → ℕ) → Chains (comes_before object offset)
+placed_chains object offset x y z = precedes_next (object x) (object y) (object z) (offset x) (offset y) (offset z)
 
-equal : (i j : ℕ) → (i == j) ≡ true → i ≡ j
-equal i j e = grind (arith, nat_tests)
+pub placed_ranks : {X : Type 0} (object : X → Object) (offset : X → ℕ) → Ranks object (comes_before object offset)
+placed_ranks object offset x y = precedes_rank (object x) (object y) (offset x) (offset y)
 
-slot_object : (object : Object) (offset : ℕ) (scalar : Scalar) (s : MemorySlot) → is_slot object offset scalar s ≡ true → s.object ≡ object
-slot_object object offset scalar s e = same_is s.object object (left_of _ _ (left_of _ _ e))
+-- what is found where something is sought lies at the same place
+abbrev pub MatchesThere : {X : Type 0} → (X → Object) → (X → ℕ) → (X → X → Bool) → Type 0
+MatchesThere {X} object offset matches = (t x : X) → matches t x ≡ true → (object x ≡ object t) × (offset x ≡ offset t)
 
-slot_offset : (object : Object) (offset : ℕ) (scalar : Scalar) (s : MemorySlot) → is_slot object offset scalar s ≡ true → s.offset ≡ offset
-slot_offset object offset scalar s e = equal s.offset offset (right_of _ _ (left_of _ _ e))
-
--- a slot of an object with an offset
-abbrev pub slot_of : Object → ℕ → Scalar → MemorySlot
-slot_of object offset scalar = record { object = object; offset = offset; scalar = scalar; value = Null }
-
-pub slot_seeks : (object : Object) (offset : ℕ) (scalar : Scalar) → Seeks slot_precedes (slot_of object offset scalar) (is_slot object offset scalar)
-slot_seeks object offset scalar = record {
-  chains = λ x y z. precedes_next x.object y.object z.object x.offset y.offset z.offset;
-  apart = λ x e. refuted (is_slot object offset scalar x) (λ t. false≢true (sym (precedes_self object offset) ∙ (sym (ap (λ (o : Object). precedes o offset object offset) (slot_object object offset scalar x t)) ∙ sym (ap (λ (n : ℕ). precedes x.object n object offset) (slot_offset object offset scalar x t)) ∙ e)));
-  reach = λ x y t e. sym (ap (λ (o : Object). precedes y.object y.offset o offset) (slot_object object offset scalar x t)) ∙ sym (ap (λ (n : ℕ). precedes y.object y.offset x.object n) (slot_offset object offset scalar x t)) ∙ e;
+pub placed_seeks : {X : Type 0} (object : X → Object) (offset : X → ℕ) (matches : X → X → Bool) → MatchesThere object offset matches → (t : X) → Seeks (comes_before object offset) t (matches t)
+placed_seeks object offset matches there t = record {
+  chains = placed_chains object offset;
+  apart = λ x e. refuted (matches t x) (λ m. false≢true (sym (precedes_self (object t) (offset t)) ∙ (sym (ap (λ (o : Object). precedes o (offset t) (object t) (offset t)) (there t x m).0) ∙ sym (ap (λ (n : ℕ). precedes (object x) n (object t) (offset t)) (there t x m).1) ∙ e)));
+  reach = λ x y m e. sym (ap (λ (o : Object). precedes (object y) (offset y) o (offset t)) (there t x m).0) ∙ sym (ap (λ (n : ℕ). precedes (object y) (offset y) (object x) n) (there t x m).1) ∙ e;
 }
 
--- an extent of an object
-abbrev pub extent_at : Object → Extent
-extent_at object = record { object = object; size = 0; constant = false }
+-- ---- an item that stands in for another keeps the order
 
-pub extent_seeks : (object : Object) → Seeks extent_precedes (extent_at object) (λ x. same_object x.object object)
-extent_seeks object = record {
-  chains = λ x y z. precedes_next x.object y.object z.object 0 0 0;
-  apart = λ x e. refuted (same_object x.object object) (λ t. false≢true (sym (precedes_self object 0) ∙ sym (ap (λ (o : Object). precedes o 0 object 0) (same_is x.object object t)) ∙ e));
-  reach = λ x y t e. sym (ap (λ (o : Object). precedes y.object 0 o 0) (same_is x.object object t)) ∙ e;
-}
+abbrev instead : {X : Type 0} → (X → X → Bool) → X → X → X
+instead matches t x = if matches t x then t else x
 
--- ---- a value that is put keeps the order
+instead_here : {X : Type 0} (matches : X → X → Bool) (t x : X) → matches t x ≡ true → instead matches t x ≡ t
+instead_here matches t x m = rw m refl
 
-pub put_ordered : (value : Value) (slots : List MemorySlot) (k : ℕ) (d : MemorySlot) → k < length slots → IsOrdered slot_precedes slots → IsOrdered slot_precedes (set slots k (record (get_or slots k d) { value = value }))
-put_ordered value slots k d l h = ordered_set slot_precedes (λ s. record s { value = value }) (λ x y. refl) (λ x y. refl) slots k d l h
+instead_left : {X : Type 0} (object : X → Object) (offset : X → ℕ) (matches : X → X → Bool) → MatchesThere object offset matches → (t x y : X) → comes_before object offset (instead matches t x) y ≡ comes_before object offset x y
+instead_left object offset matches there t x y =
+    cond_both (matches t x) t x (λ z. comes_before object offset z y ≡ comes_before object offset x y)
+    (λ m. sym (ap (λ (o : Object). precedes o (offset x) (object y) (offset y)) (there t x m).0 ∙ ap (λ (n : ℕ). precedes (object t) n (object y) (offset y)) (there t x m).1)) (λ _. refl)
 
--- a put at the first place
-pub put_at : (slots : List MemorySlot) (object : Object) (offset : ℕ) (scalar : Scalar) (value : Value) (k : ℕ) (d : MemorySlot) → IsFirstAt (is_slot object offset scalar) slots k → put_slot slots object offset scalar value ≡ set slots k (record (get_or slots k d) { value = value })
-put_at slots object offset scalar value k d first =
-    let found = position-Some (is_slot object offset scalar) slots k in
-    update_first_at (is_slot object offset scalar) (λ s. record s { value = value }) slots k d first.within (λ i e l. (found e first.place).2 i l) (found d first.place).1
+instead_right : {X : Type 0} (object : X → Object) (offset : X → ℕ) (matches : X → X → Bool) → MatchesThere object offset matches → (t x y : X) → comes_before object offset y (instead matches t x) ≡ comes_before object offset y x
+instead_right object offset matches there t x y =
+    cond_both (matches t x) t x (λ z. comes_before object offset y z ≡ comes_before object offset y x)
+    (λ m. sym (ap (λ (o : Object). precedes (object y) (offset y) o (offset x)) (there t x m).0 ∙ ap (λ (n : ℕ). precedes (object y) (offset y) (object t) n) (there t x m).1)) (λ _. refl)
+
+pub replaced_ordered : {X : Type 0} (object : X → Object) (offset : X → ℕ) (matches : X → X → Bool) → MatchesThere object offset matches → (xs : List X) (k : ℕ) (t : X) → IsFirstAt (matches t) xs k → IsOrdered (comes_before object offset) xs →
+    IsOrdered (comes_before object offset) (set xs k t)
+replaced_ordered object offset matches there xs k t first h =
+    subst (λ y. IsOrdered (comes_before object offset) (set xs k y)) (instead_here matches t (get_or xs k t) (position-Some (matches t) xs k t first.place).1)
+    (ordered_set (comes_before object offset) (instead matches t) (instead_left object offset matches there t) (λ x y. instead_right object offset matches there t y x) xs k t first.within h)
+
+-- an item in the place of the first one that is found where it is sought
+pub replaced_at : {X : Type 0} (matches : X → X → Bool) (xs : List X) (k : ℕ) (t : X) → IsFirstAt (matches t) xs k → update_first (matches t) (λ _. t) xs ≡ set xs k t
+replaced_at matches xs k t first =
+    let found = position-Some (matches t) xs k in
+    update_first_at (matches t) (λ _. t) xs k t first.within (λ i e l. (found e first.place).2 i l) (found t first.place).1
 
 -- ---- a frame that returns
 
@@ -98,5 +98,32 @@ unfolding update_first
 update_none p f [] none = refl
 update_none p f (x ∷ xs) none = update_by p f x xs (p x) refl none (update_none p f xs)
 
-pub put_none : (slots : List MemorySlot) (object : Object) (offset : ℕ) (scalar : Scalar) (value : Value) → find (is_slot object offset scalar) slots ≡ None → put_slot slots object offset scalar value ≡ slots
-put_none slots object offset scalar value none = update_none (is_slot object offset scalar) (λ s. record s { value = value }) slots none
+pub replaced_none : {X : Type 0} (matches : X → X → Bool) (xs : List X) (t : X) → find (matches t) xs ≡ None → update_first (matches t) (λ _. t) xs ≡ xs
+replaced_none matches xs t none = update_none (matches t) (λ _. t) xs none
+
+-- ---- a value that is put
+
+-- changes that agree where the test passes
+same_change : {X : Type 0} (p : X → Bool) (f g : X → X) → ((x : X) → p x ≡ true → f x ≡ g x) → (xs : List X) → update_first p f xs ≡ update_first p g xs
+unfolding update_first
+same_change p f g h [] = refl
+same_change p f g h (x ∷ xs) =
+    by (p x) refl (same_change p f g h xs)
+  where
+    by : (b : Bool) → p x ≡ b → update_first p f xs ≡ update_first p g xs → (if b then f x ∷ xs else x ∷ update_first p f xs) ≡ (if b then g x ∷ xs else x ∷ update_first p g xs)
+    by true e more = ap (λ y. y ∷ xs) (h x e)
+    by false e more = ap (λ ys. x ∷ ys) more
+
+abbrev slot_with : Object → ℕ → Scalar → Value → MemorySlot
+slot_with object offset scalar value = record { object = object; offset = offset; scalar = scalar; value = value }
+
+slot_put : (object : Object) (offset : ℕ) (scalar : Scalar) (value : Value) (s : MemorySlot) → is_slot object offset scalar s ≡ true → slot_with object offset scalar value ≡ record s { value = value }
+slot_put object offset scalar value s m =
+    let there = slot_there (slot_with object offset scalar value) s m in
+    let own : s.scalar ≡ scalar = same_scalar_true s.scalar scalar (right_of (same_object s.object object && (s.offset == offset)) (same_scalar s.scalar scalar) m) in
+    sym (λ i. record { object = there.0 i; offset = there.1 i; scalar = own i; value = value })
+
+pub put_is : (slots : List MemorySlot) (object : Object) (offset : ℕ) (scalar : Scalar) (value : Value) →
+    update_first (is_slot object offset scalar) (λ _. record { object = object; offset = offset; scalar = scalar; value = value }) slots ≡ put_slot slots object offset scalar value
+put_is slots object offset scalar value =
+    same_change (is_slot object offset scalar) (λ s. slot_with object offset scalar value) (λ s. record s { value = value }) (slot_put object offset scalar value) slots

@@ -2,8 +2,6 @@
 use Rattle.std.specs.Prelude.{◌≡◌, ℕ, ◌+◌, ◌-◌, ◌<◌, ◌≤◌, ◌==◌, nat_lt, Bool, true, if◌then◌else◌, List, length, slice_index_or}
 use Rattle.gimple_ir.specs.declared.value.Object.{Object}
 use Rattle.gimple_ir.specs.declared.value.Object.TheVariants.{Global, Local}
-use Rattle.gimple_core.specs.declared.machine.Extent.{Extent}
-use Rattle.gimple_core.specs.declared.machine.MemorySlot.{MemorySlot}
 
 -- globals come before locals, and the locals of a frame before those of a later one
 abbrev pub rank : Object → ℕ
@@ -20,11 +18,9 @@ unfoldable pub precedes : Object → ℕ → Object → ℕ → Bool
 precedes a i b j =
     if rank a == rank b then (if place a == place b then nat_lt i j else nat_lt (place a) (place b)) else nat_lt (rank a) (rank b)
 
-abbrev pub slot_precedes : MemorySlot → MemorySlot → Bool
-slot_precedes s t = precedes s.object s.offset t.object t.offset
-
-abbrev pub extent_precedes : Extent → Extent → Bool
-extent_precedes x y = precedes x.object 0 y.object 0
+-- the same of what belongs to objects, at an offset in each
+abbrev pub comes_before : {X : Type 0} → (X → Object) → (X → ℕ) → X → X → Bool
+comes_before object offset x y = precedes (object x) (offset x) (object y) (offset y)
 
 -- each item comes before each later one
 abbrev pub IsOrdered : {X : Type 0} → (X → X → Bool) → List X → Type 0

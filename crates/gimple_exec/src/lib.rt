@@ -9,6 +9,7 @@ mod interpreter;
 mod machine;
 mod memory;
 mod order;
+mod rows;
 mod slots;
 mod values;
 mod world;

@@ -1,7 +1,0 @@
-use Rattle.std.proofs.Common.{rules}
-use Rattle.std.proofs.lemmas.Fn.{filter_same}
-use Rattle.gimple_core.specs.Memory.{is_elsewhere}
-use Rattle.gimple_exec.proofs.extents.leave.Goals as goal
-
-pub returns : goal.returns
-returns c = filter_same _ (λ s. is_elsewhere c.args.serial s.object) _ (λ x r f k. search rules) _ _ c.retain.ensures.filtered
