@@ -1,21 +1,17 @@
 -- The values hold in each run.
-use Rattle.std.proofs.Common.{◌≡◌, ℕ, ℤ, true, List, [], ◌∷◌, take, refl, sym, ◌∙◌, ap, subst, Option, Some, None, slice_get}
+use Rattle.std.proofs.Common.{◌≡◌, ℕ, ℤ, true, List, take, refl, sym, ◌∙◌, ap, subst, Option, Some, None, slice_get}
 use Rattle.std.specs.List.{list_all}
 use Rattle.gimple_ir.specs.declared.scalar.Scalar.TheVariants.{I64}
 use Rattle.gimple_ir.specs.declared.block.Block.{Block}
-use Rattle.gimple_ir.specs.declared.declarations.Global.{Global}
-use Rattle.gimple_ir.specs.declared.statement.Stmt.{Stmt}
 use Rattle.gimple_ir.specs.declared.program.Function.{Function}
 use Rattle.gimple_ir.specs.declared.program.Program.{Program}
 use Rattle.gimple_core.specs.Operators.{in_scalar}
 use Rattle.gimple_core.specs.State.{State}
-use Rattle.gimple_core.specs.Run.{Did, Goes, Reaches, Moves, Stops, Traps, Jump, CallEntry, CallReturn, stepped}
-use Rattle.gimple_core.specs.Trace.{Event, Entry, At, Load, Store, Leave, access, crossing, told_by, EachAfter}
-use Rattle.gimple_claims.specs.Bodies.{EachOf, Meets, FactsClaim, IsAt, body_of as statements_of, file_at}
-use Rattle.gimple_claims.proofs.Accesses.{access_all}
-use Rattle.gimple_claims.proofs.Comes.{Comes, AtEach, each_append}
+use Rattle.gimple_core.specs.Trace.{Event, Entry, At, Load, Store, Leave}
+use Rattle.gimple_claims.specs.Bodies.{Meets, FactsClaim, IsAt, body_of as statements_of, file_at}
+use Rattle.gimple_claims.proofs.Comes.{Comes}
 use Rattle.gimple_claims.proofs.Files.{file_is}
-use Rattle.gimple_claims.proofs.Points.{meets_of}
+use Rattle.gimple_claims.proofs.Points.{IsQuiet, points_each, meets_of}
 use Rattle.fix_engine.specs.declared.lifted.Lifted.{Lifted}
 use Rattle.value_domain.specs.declared.abs_val.AbsVal.{AbsVal}
 use Rattle.body_values.specs.declared.facts.Facts.{Facts}
@@ -29,36 +25,6 @@ use Rattle.body_values.proofs.Points.{F, sol, is_at}
 same_body : (o : Option Block) → body_at o ≡ statements_of o
 same_body None = refl
 same_body (Some b) = refl
-
-abbrev NotAt : Event → Type 0
-NotAt (Entry s g arguments m caller) = Unit {0}
-NotAt (At c w) = ⊥
-NotAt (Load c scalar object offset v) = Unit {0}
-NotAt (Store c scalar object offset v) = Unit {0}
-NotAt (Leave s) = Unit {0}
-
-crossing_quiet : (globals : List Global) (xs : List Stmt) (s : State) (d : Did) → EachOf NotAt (crossing globals xs s d)
-crossing_quiet globals xs s (Goes t) = tt
-crossing_quiet globals xs s (Reaches (Moves CallEntry t)) = (tt, tt)
-crossing_quiet globals xs s (Reaches (Moves CallReturn t)) = (tt, tt)
-crossing_quiet globals xs s (Reaches (Moves Jump t)) = tt
-crossing_quiet globals xs s (Reaches (Stops o z)) = (tt, tt)
-crossing_quiet globals xs s (Reaches (Traps o k)) = tt
-
--- a claim of the events at points alone
-abbrev IsQuiet : (List Event → Event → Type 0) → Type 0
-IsQuiet Q = (past : List Event) (e : Event) → NotAt e → Q past e
-
-quiet_each : (Q : List Event → Event → Type 0) → IsQuiet Q → (past es : List Event) → EachOf NotAt es → EachAfter Q past es
-quiet_each Q q past [] h = tt
-quiet_each Q q past (e ∷ es) h = (q past e h.0, quiet_each Q q (e ∷ past) es h.1)
-
-points_each : (p : Program) (Q : List Event → Event → Type 0) (input : List ℤ) → IsQuiet Q → ((past : List Event) (s : State) → Comes p input past s → Q past (At s.top s.world)) → AtEach p input Q
-unfolding told_by
-points_each p Q input q at past s c = (
-  at past s c,
-  each_append Q _ (access p.globals s.top.rest s) _ (quiet_each Q q _ _ (access_all NotAt s (λ scalar f. tt) (λ scalar f v. tt) p.globals s.top.rest)) (quiet_each Q q _ _ (crossing_quiet p.globals s.top.rest s (stepped p s s.top.rest))),
-)
 
 module _ (p : Program) (n : ℕ) (f : Function) (facts : Facts) (most : ℕ) (ts : List ℤ) (xs : List (Lifted (List AbsVal))) (h : Analysed p n f facts most ts xs) where
   -- the file at a point, as the relation and as the function say it

@@ -7,7 +7,7 @@ use Rattle.gimple_ir.specs.declared.scalar.Scalar.TheVariants.{I64}
 use Rattle.gimple_ir.specs.declared.value.Value.{Value}
 use Rattle.gimple_ir.specs.declared.operand.Place.{Place}
 use Rattle.gimple_ir.specs.declared.statement.Stmt.{Stmt}
-use Rattle.gimple_ir.specs.declared.statement.Stmt.TheVariants.{Copy, Arith, Compare, Convert, Load, Store, Call, Get, Put, Abort}
+use Rattle.gimple_ir.specs.declared.statement.Stmt.TheVariants.{Load, Call}
 use Rattle.gimple_ir.specs.declared.block.Block.{Block}
 use Rattle.gimple_ir.specs.declared.block.End.{End}
 use Rattle.gimple_ir.specs.declared.block.End.TheVariants.{Goto, If, Switch, Return}
@@ -23,6 +23,7 @@ use Rattle.gimple_core.specs.Trace.{Event, told, accesses, load_event}
 use Rattle.gimple_core.specs.Env.{functions_by_name}
 use Rattle.gimple_core.specs.Statements as check
 use Rattle.gimple_core.proofs.Passed.{first_passed}
+use Rattle.gimple_core.proofs.StepLemmas.{call_is}
 use Rattle.gimple_claims.specs.Bodies.{MeetsAt, EachOf, Meets, BodyFlow, IsBlock, first, jumped, StateAt, begin, next, IsAt, carried}
 use Rattle.gimple_claims.specs.Checks.{env_of, StmtsPass}
 use Rattle.gimple_claims.specs.Laws.{keys, register_keys}
@@ -144,18 +145,6 @@ module _ (p : Program) (n : ℕ) (f : Function) (facts : Facts) (most : ℕ) (ts
       (subst (λ (g : Function). RowFits most ts (length (g.params ++ g.registers)) row → LoadsFit (body_of p n g facts most ts) → FileHolds (after_stmt (body_of p n g facts most ts) s.top.block s.top.index (Call k.to k.callee k.arguments) row) (given s.world.cells k.to v)) same
       (λ fits loads. call_holds p n s.top.function facts most ts h.lawful s.top.serial s.world.cells row (declared past s c) (typed past s c) fits holds loads s.top.block s.top.index (functions_by_name p.functions) k.to k.callee k.arguments v checked after_typed)
       fits loads)
-    where
-      call_is : (x : Stmt) (k : Calling) → call_of x ≡ Some k → x ≡ Call k.to k.callee k.arguments
-      call_is (Copy to from) k e = cc
-      call_is (Arith to left op right) k e = cc
-      call_is (Compare to left cmp right) k e = cc
-      call_is (Convert to scalar from) k e = cc
-      call_is (Load to scalar place) k e = cc
-      call_is (Store scalar place from) k e = cc
-      call_is (Call to callee arguments) k e = let same : record { to = to; callee = callee; arguments = arguments } ≡ k = cc in ap (λ (z : Calling). Call z.to z.callee z.arguments) same
-      call_is (Get to) k e = cc
-      call_is (Put from) k e = cc
-      call_is Abort k e = cc
 
   -- an end that leads to a label
   branch_taken : (past : List Event) (s : State) (label : ℕ) (row : List AbsVal) → Comes p input past s → (e : End) → check.ending (env_of p s.top.function) e ≡ Ok tt → target_of p.globals e s ≡ Some label →

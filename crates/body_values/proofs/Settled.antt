@@ -38,7 +38,7 @@ use Rattle.body_values.specs.Scenes.{body_in, FitsIn}
 use Rattle.body_values.specs.Setting.{IsGiven, IsSceneOf, AreBegins, AreRows, WereFound}
 use Rattle.body_values.specs.System.{FactsFit, entry_fits}
 use Rattle.body_values.proofs.Flowing.{fits_in}
-use Rattle.body_values.proofs.Layouts.{global_layout}
+use Rattle.gimple_core.proofs.AcceptedLayouts.{global_layout}
 
 -- ---- what a flow carries
 
