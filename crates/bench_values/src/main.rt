@@ -1,18 +1,15 @@
 //! Times the operators on abstract values: `bench_values constants|intervals|any ROUNDS` prints a sum over the results.
 #![tactic(auto)]
 
-ghost use Rattle.bench_values.specs.Kept.{IsKept};
 ghost use Rattle.gimple_ir.specs.declared.scalar.Scalar.TheVariants.{I32};
-
-mod sample;
-mod values;
+ghost use Rattle.value_rows.specs.Kept.{IsKept};
 
 use gimple_core::{Op, OutOfMemory, Scalar, low};
 use std::alloc::Global;
 use std::env;
 use std::process::ExitCode;
 use value_domain::{AbsVal, Range, Thresholds, Vals};
-use values::{alone, between, made, whole};
+use value_rows::{alone, between, limits, made, whole};
 
 /// The operators that take turns.
 #[derive(Clone, Copy)]
@@ -108,7 +105,7 @@ fn any(alloc: Global, limits: &Thresholds, rounds: u32) -> Result<u64, OutOfMemo
 
 /// The sum over the results on values of a kind, or None where no kind has the name.
 fn summed(alloc: Global, kind: &str, rounds: u32) -> Result<Option<u64>, OutOfMemory> {
-    let limits = sample::limits(alloc)?;
+    let limits = limits(alloc)?;
     match kind {
         "constants" => Ok(Some(constants(alloc, &limits, rounds)?)),
         "intervals" => Ok(Some(intervals(alloc, &limits, rounds)?)),

@@ -3,8 +3,9 @@
 ghost use Rattle.std.specs.Prelude.{◌≡◌, false};
 ghost use Rattle.value_domain.specs.ConstantOperators.{is_pointer};
 
+use crate::expectations::is_any_within;
 use crate::sample::limits;
-use crate::values::{between, is_any_within, made, traps};
+use crate::values::{between, made, traps};
 use gimple_core::{Op, OutOfMemory, Scalar};
 use std::alloc::Global;
 use std::test::Fail;

@@ -1,9 +1,9 @@
 //! What the calls make of single numbers.
 
+use crate::expectations::{is_any_within, is_listed_alone, is_nothing, is_within};
 use crate::sample::limits;
 use crate::values::{
-    alone, both, compared, converted, is_any_within, is_below, is_listed_alone, is_nothing,
-    is_within, joined, known_number, left, made, whole,
+    alone, both, compared, converted, is_below, joined, known_number, left, made, whole,
 };
 use gimple_core::{Cmp, Op, OutOfMemory, Scalar};
 use std::alloc::Global;

@@ -1,14 +1,17 @@
-//! Values that the operators take, and questions about them.
+//! Values that the operators take, and what the operators make of them.
 
 ghost use Rattle.std.specs.Prelude.{◌≡◌, false, IfOk};
+ghost use Rattle.value_domain.specs.AbsOperators.{abs_met, known_of, may_trap_of};
 ghost use Rattle.value_domain.specs.ConstantOperators.{is_pointer};
+ghost use Rattle.value_domain.specs.Values.{abs_val_below, abs_val_joined};
 ghost use Rattle.value_rows.specs.Kept.{IsKept};
+ghost use Rattle.value_rows.specs.Numbers.{number_in};
 
 use gimple_core::{Cmp, Constant, Op, OutOfMemory, Scalar};
 use std::alloc::Global;
 use value_domain::{
-    AbsVal, Bits, Range, Thresholds, Vals, abs_cmp, abs_convert, abs_op, exactly, join, known, leq,
-    may_trap, meet, refine, top,
+    AbsVal, Range, Thresholds, abs_cmp, abs_convert, abs_op, exactly, join, known, leq, may_trap,
+    meet, refine, top,
 };
 
 /// What holds a number of a scalar.
@@ -89,6 +92,7 @@ pub fn traps(op: Op, scalar: Scalar, first: &AbsVal, second: &AbsVal, limits: &T
     requires number { is_pointer scalar ≡ false }
     requires first { IsKept scalar limits.now first.now }
     requires second { IsKept scalar limits.now second.now }
+    ensures { result ≡ may_trap_of op scalar first.now second.now }
 {
     limits.known();
     may_trap(op, scalar, first, second)
@@ -140,6 +144,7 @@ pub fn joined(
 ) -> Result<AbsVal, OutOfMemory>
     requires first { IsKept scalar limits.now first.now }
     requires second { IsKept scalar limits.now second.now }
+    ensures { IfOk result (λ v. v ≡ abs_val_joined first.now second.now) }
 {
     limits.known();
     join(first, second)
@@ -154,6 +159,7 @@ pub fn both(
 ) -> Result<AbsVal, OutOfMemory>
     requires first { IsKept scalar limits.now first.now }
     requires second { IsKept scalar limits.now second.now }
+    ensures { IfOk result (λ v. v ≡ abs_met first.now second.now) }
 {
     limits.known();
     meet(first, second)
@@ -163,6 +169,7 @@ pub fn both(
 pub fn is_below(scalar: Scalar, first: &AbsVal, second: &AbsVal, limits: &Thresholds) -> bool
     requires first { IsKept scalar limits.now first.now }
     requires second { IsKept scalar limits.now second.now }
+    ensures { result ≡ abs_val_below first.now second.now }
 {
     limits.known();
     leq(first, second)
@@ -171,38 +178,10 @@ pub fn is_below(scalar: Scalar, first: &AbsVal, second: &AbsVal, limits: &Thresh
 /// The number that a value of a scalar is known to be.
 pub fn known_number(scalar: Scalar, value: &AbsVal, limits: &Thresholds) -> Option<i128>
     requires { IsKept scalar limits.now value.now }
+    ensures { result ≡ number_in (known_of scalar value.now) }
 {
     match known(scalar, value) {
         Some(Constant::Int(number)) => Some(number),
         _ => None,
-    }
-}
-
-/// Whether a value has any constant and this interval.
-pub fn is_any_within(value: &AbsVal, range: Range) -> bool {
-    matches!(&value.vals, Vals::Any) && value.range == range
-}
-
-/// Whether a value holds nothing.
-pub fn is_nothing(value: &AbsVal) -> bool {
-    matches!(&value.vals, Vals::Nothing) && value.range == Range { low: 1, high: 0 }
-}
-
-/// Whether a value has these known bits and this interval.
-pub fn is_within(value: &AbsVal, bits: Bits, range: Range) -> bool {
-    value.bits == bits && value.range == range
-}
-
-/// Whether the set of a value is this number alone.
-pub fn is_listed_alone(value: &AbsVal, want: i128) -> bool {
-    match &value.vals {
-        Vals::Among {
-            limit: _,
-            constants,
-        } => match constants.as_slice() {
-            [Constant::Int(number)] => *number == want,
-            _ => false,
-        },
-        _ => false,
     }
 }
