@@ -12,7 +12,7 @@ use Rattle.call_graph.specs.Graph.{Leads, start, along, AreMarks}
 use Rattle.std.proofs.lemmas.Bool.Decides.{eqb_tells}
 use Rattle.std.proofs.lemmas.List.Elements.{Contains-append_cases}
 use Rattle.call_graph.specs.Reached.{AreReached}
-use Rattle.call_graph.proofs.Members.{here, later}
+use Rattle.graph_walk.proofs.Parting.{here, later}
 use Rattle.call_graph.proofs.Naming.{function_at, name_at, number_at}
 use Rattle.call_graph.proofs.Calling.{IsCallOf, functions_made, functions_make}
 

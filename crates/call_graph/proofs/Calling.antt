@@ -11,7 +11,7 @@ use Rattle.gimple_ir.specs.declared.statement.Stmt.{Stmt}
 use Rattle.gimple_core.specs.Run.{Calling, call_of}
 use Rattle.gimple_core.specs.Reach.{CallIn, CallInBlocks}
 use Rattle.call_graph.specs.Calls.{number_in, call_edges, body_edges, block_edges, function_edges, callees_in, with_callee}
-use Rattle.call_graph.proofs.Members.{nothing, contains_cases, here}
+use Rattle.graph_walk.proofs.Parting.{nothing, contains_cases, here}
 
 -- the callees in two lists of edges
 callees_append : (a : ℕ) (xs ys : List Edge) → callees_in (xs ++ ys) a ≡ callees_in xs a ++ callees_in ys a

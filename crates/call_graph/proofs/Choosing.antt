@@ -1,14 +1,11 @@
 -- Where some node does not stand, some class is ready.
-use Rattle.std.proofs.Common.{◌≡◌, ℕ, zero, suc, ◌<◌, ◌≤◌, ◌+◌, ◌⊎◌, inl, inr, Bool, true, false, List, [], ◌∷◌, ◌++◌, length, set, get_or, refl, sym, ◌∙◌, ap, arith}
+use Rattle.std.proofs.Common.{◌≡◌, ℕ, zero, suc, ◌<◌, ◌≤◌, ◌+◌, ◌⊎◌, inl, inr, Bool, true, false, List, [], ◌∷◌, length, get_or, refl, sym, ◌∙◌, ap, arith}
 use Rattle.std.specs.List.{Contains}
-use Rattle.std.proofs.lemmas.Bool.{cases_Bool}
-use Rattle.graph_walk.proofs.Walking.{marked_inside, walk_start, walk_done, step_kept, step_falls}
-use Rattle.call_graph.specs.Walk.{met, unmarked, IsWalk}
+use Rattle.std.proofs.lemmas.Bool.{cases_Bool, cases_lt}
+use Rattle.graph_walk.specs.Walk.{Walk, met, unmarked, IsWalk}
+use Rattle.graph_walk.proofs.Leading.{reached_then}
+use Rattle.graph_walk.proofs.Walking.{marked_inside, walk_start, walk_done, walked_marks, step_kept, step_work}
 use Rattle.call_graph.specs.Graph.{Leads, start, along, AreMarks, IsReady}
-
-pub reached_then : (out : ℕ → List ℕ) (a b c : ℕ) → Leads out a b → Leads out b c → Leads out a c
-reached_then out a b _ p start = p
-reached_then out a b _ p (along x y q h) = along x y (reached_then out a b x p q) h
 
 abbrev pub marked : List Bool → ℕ
 marked [] = 0
@@ -94,22 +91,22 @@ falses_off zero a = refl
 falses_off (suc n) zero = refl
 falses_off (suc n) (suc a) = falses_off n a
 
-split_last : (x : ℕ) (xs : List ℕ) → (rest : List ℕ) × (a : ℕ) × (x ∷ xs ≡ rest ++ a ∷ [])
-split_last x [] = ([], x, refl)
-split_last x (y ∷ ys) = let (rest, a, e) = split_last y ys in (x ∷ rest, a, λ i. x ∷ e i)
-
 module _ (out : ℕ → List ℕ) (n root : ℕ) (ends : (x y : ℕ) → Contains (out x) y → y < n) where
-  walk_ends : (fuel : ℕ) (marks : List Bool) (pending : List ℕ) → IsWalk out n root (record { marks = marks; pending = pending }) → unmarked marks + length pending < fuel → (ms : List Bool) × AreMarks out n root ms
-  walk_ends zero marks pending walk low = absurd (omega (arith, low))
-  walk_ends (suc fuel) marks [] walk low = (marks, walk_done out n root marks walk)
-  walk_ends (suc fuel) marks (x ∷ xs) walk low =
-      let (rest, a, split) = split_last x xs in
-      let v = met (out a) (record { marks = marks; pending = rest }) in
-      let falls = step_falls out n root marks (x ∷ xs) walk rest a split (out a) v refl (ends a) refl in
-      walk_ends fuel v.marks v.pending (step_kept out n root marks (x ∷ xs) walk rest a split (out a) v refl (ends a) refl) (omega (arith, falls, low))
+  walk_ends : (fuel followed : ℕ) (w : Walk) → IsWalk out (falses n) root followed w → unmarked w.marks + length w.nodes < followed + fuel → (ms : List Bool) × AreMarks out n root ms
+  walk_ends zero followed w walk low = absurd (omega (arith, low, walk.followed_met))
+  walk_ends (suc fuel) followed w walk low = elim (cases_lt followed (length w.nodes)) [
+    | inl inside ↦
+        let a = get_or w.nodes followed 0 in
+        let v = met (out a) w in
+        let inner : (b : ℕ) → Contains (out a) b → b < length (falses n) = λ b h. let under = ends a b h in omega (arith, under, falses_length n) in
+        let work = step_work out (falses n) root followed w walk a inside refl (out a) v refl inner refl in
+        walk_ends fuel (followed + 1) v (step_kept out (falses n) root followed w walk a inside refl (out a) v refl inner refl) (omega (arith, work, low))
+    | inr end ↦
+        (w.marks, walked_marks out n root (falses n) w.marks w.nodes (falses_length n) (falses_off n) (walk_done out (falses n) root followed w walk (omega (arith, end, walk.followed_met))))
+  ]
 
   -- there are marks of what a node reaches
   pub marks_found : root < n → (ms : List Bool) × AreMarks out n root ms
   marks_found low =
-      let walk = walk_start out n root (falses n) (falses_length n) low (falses_off n) in
-      walk_ends (suc (unmarked (set (falses n) root true) + 1)) (set (falses n) root true) (root ∷ []) walk (omega arith)
+      let w : Walk = met (root ∷ []) (record { marks = falses n; nodes = [] }) in
+      walk_ends (suc (unmarked w.marks + length w.nodes)) 0 w (walk_start out (falses n) root (omega (arith, low, falses_length n))) (omega arith)

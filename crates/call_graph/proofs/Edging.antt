@@ -7,7 +7,7 @@ use Rattle.std.proofs.lemmas.List.Elements.{Contains-append_cases, Contains-appe
 use Rattle.gimple_ir.specs.declared.point.Edge.{Edge}
 use Rattle.call_graph.specs.Calls.{callees_in, with_callee}
 use Rattle.call_graph.specs.Firsts.{turned, between_firsts, unless_inside, edges_between, AreBetween}
-use Rattle.call_graph.proofs.Members.{nothing, contains_cases, here, later}
+use Rattle.graph_walk.proofs.Parting.{nothing, contains_cases, here, later}
 
 no_edge_in : (e : Edge) → Contains [] e → ⊥
 no_edge_in e (k, low, _) = omega (arith, low)

@@ -5,7 +5,7 @@ use Rattle.std.proofs.lemmas.List.Elements.{Contains-append_left, Contains-push,
 use Rattle.std.proofs.lemmas.Bool.Decides.{eqb_tells}
 use Rattle.call_graph.specs.Graph.{IsAscending}
 use Rattle.call_graph.specs.Firsts.{IsPart, pushed_if}
-use Rattle.call_graph.proofs.Members.{nothing, here, later}
+use Rattle.graph_walk.proofs.Parting.{nothing, here, later}
 
 ascending_push : (xs : List ℕ) (m : ℕ) → IsAscending xs → ((y : ℕ) → Contains xs y → y < m) → IsAscending (xs ++ m ∷ [])
 ascending_push [] m up below = (λ y h. let no = nothing y h in elim no [ ], tt)

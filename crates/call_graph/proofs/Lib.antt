@@ -1,4 +1,3 @@
-pub mod Members
 pub mod Naming
 pub mod Sizes
 pub mod Calling
@@ -12,6 +11,5 @@ pub mod Growing
 pub mod Standing
 pub mod Sofar
 pub mod Small
-pub mod Firsting
 pub mod Edging
 pub mod Queueing

@@ -2,7 +2,7 @@
 use Rattle.std.proofs.Common.{◌≡◌, ℕ, inl, inr, List, [], ◌∷◌, ◌++◌, refl, sym, subst, arith}
 use Rattle.std.specs.List.{Contains}
 use Rattle.call_graph.specs.Graph.{IsNext, IsComponent, IsAscending, IsOrderAfter, OrderIsOne}
-use Rattle.call_graph.proofs.Members.{nothing, contains_cases, here, later}
+use Rattle.graph_walk.proofs.Parting.{nothing, contains_cases, here, later}
 
 -- the first of one list is not above a member of the other
 first_same : (x : ℕ) (xs : List ℕ) (y : ℕ) (ys : List ℕ) → IsAscending (x ∷ xs) → IsAscending (y ∷ ys) → Contains (y ∷ ys) x → Contains (x ∷ xs) y → x ≡ y

@@ -10,8 +10,8 @@ use Rattle.std.proofs.lemmas.List.Elements.{Contains-append_left, Contains-push,
 use Rattle.call_graph.specs.Firsts.{IsFirst, IsPart}
 use Rattle.call_graph.specs.Walk.{listed, row_at}
 use Rattle.call_graph.specs.Queue.{AreTrimmed, AreNodes, IsQueue, IsUnsettled, Waits}
-use Rattle.call_graph.proofs.Members.{nothing, contains_cases, here, later}
-use Rattle.call_graph.proofs.Firsting.{row_set, row_not_set, set_one_each}
+use Rattle.graph_walk.proofs.Parting.{nothing, contains_cases, here, later}
+use Rattle.call_graph.proofs.Filling.{row_set, row_not_set, set_one_each}
 
 none_in : (xs : List ℕ) → ((c : ℕ) → Contains xs c → ⊥) → xs ≡ []
 none_in [] f = refl

@@ -13,9 +13,9 @@ use Rattle.call_graph.specs.Graph.{start, AreMutual, IsReady, IsNext, IsComponen
 use Rattle.call_graph.specs.Firsts.{AreFirsts, AreBetween, IsFirst, IsPart, edges_between}
 use Rattle.call_graph.specs.Queue.{SayStanding, IsQueue, Waits, flat}
 use Rattle.call_graph.specs.Walk.{row_at, unmarked}
-use Rattle.call_graph.proofs.Members.{nothing}
+use Rattle.graph_walk.proofs.Parting.{nothing}
 use Rattle.call_graph.proofs.Choosing.{all_stand, marks_found}
-use Rattle.call_graph.proofs.Firsting.{leads_inside, mutual_then, mutual_back}
+use Rattle.graph_walk.proofs.Leading.{leads_inside, mutual_then, mutual_back}
 use Rattle.graph_walk.proofs.Walking.{marked_inside, unmarked_set}
 use Rattle.call_graph.proofs.Edging.{edge_of, are_between}
 

@@ -6,8 +6,8 @@ use Rattle.std.proofs.Math.ListN.{length-set}
 use Rattle.std.proofs.lemmas.List.Elements.{Contains-append_left, Contains-append_cases, Contains-push, Contains-push_cases}
 use Rattle.std.proofs.lemmas.Bool.Decides.{eqb_tells}
 use Rattle.call_graph.specs.Walk.{unmarked}
-use Rattle.call_graph.proofs.Filling.{add_here}
-use Rattle.call_graph.proofs.Members.{nothing, contains_cases, here, later}
+use Rattle.graph_walk.proofs.Parting.{push_then}
+use Rattle.graph_walk.proofs.Parting.{nothing, contains_cases, here, later}
 use Rattle.graph_walk.proofs.Walking.{unmarked_set}
 
 -- the marks say which nodes stand
@@ -56,7 +56,7 @@ says_more n [] s marks low says = record {
 }
 says_more n (x ∷ xs) s marks low says =
     let P : List ℕ → Type 0 = λ ys. SayStanding n ys (stood xs (set marks x true)) in
-    subst P (add_here s xs x) (says_more n xs (s ++ x ∷ []) (set marks x true) (λ b h. low b (later x xs b h)) (says_one n s marks x (low x (here x xs)) says))
+    subst P (push_then s xs x) (says_more n xs (s ++ x ∷ []) (set marks x true) (λ b h. low b (later x xs b h)) (says_one n s marks x (low x (here x xs)) says))
 
 set_less : (xs : List Bool) (m : ℕ) → unmarked (set xs m true) ≤ unmarked xs
 set_less [] m = omega arith

@@ -1,30 +1,12 @@
 -- The first node of each node's component, the members of components, and the edges between components.
-use Rattle.std.specs.Prelude.{◌≡◌, ◌≢◌, ◌↔◌, ℕ, ◌<◌, ◌≤◌, ◌==◌, Bool, true, false, List, [], ◌∷◌, ◌++◌, length, Contains, slice_index_or, slice_set}
+use Rattle.std.specs.Prelude.{◌≡◌, ◌≢◌, ◌↔◌, ℕ, ◌<◌, ◌==◌, Bool, true, false, List, [], ◌∷◌, ◌++◌, length, Contains, slice_index_or}
 use Rattle.gimple_ir.specs.declared.point.Edge.{Edge}
-use Rattle.call_graph.specs.Graph.{AreMutual, IsAscending}
-
--- one number a node: a node of its component, not above any of them that is below k
-pub record AreFirstsBelow (out : ℕ → List ℕ) (n k : ℕ) (firsts : List ℕ) : Type 0 where
-  pub one_each : length firsts ≡ n
-  pub of_component : (a : ℕ) → a < n → AreMutual out a (slice_index_or firsts a 0)
-  pub least : (a b : ℕ) → a < n → AreMutual out a b → b < k → slice_index_or firsts a 0 ≤ b
-
--- the first node of each node's component
-abbrev pub AreFirsts : (ℕ → List ℕ) → ℕ → List ℕ → Type 0
-AreFirsts out n firsts = AreFirstsBelow out n n firsts
+use Rattle.call_graph.specs.Graph.{IsAscending}
+pub use Rattle.graph_walk.specs.Graph.{AreFirsts}
 
 -- the node is the first of its component
 abbrev pub IsFirst : List ℕ → ℕ → Type 0
 IsFirst firsts r = (r < length firsts) × (slice_index_or firsts r 0 ≡ r)
-
--- a node's first, where the node is of the component of k or is not
-abbrev pub placed : Bool → ℕ → ℕ → ℕ
-placed true k old = k
-placed false k old = old
-
-abbrev pub set_if : Bool → List ℕ → ℕ → ℕ → List ℕ
-set_if true xs at x = slice_set xs at x
-set_if false xs at x = xs
 
 abbrev pub pushed_if : Bool → ℕ → List ℕ → List ℕ
 pushed_if true m xs = xs ++ m ∷ []

@@ -1,10 +1,6 @@
 -- Directed graphs on numbers, each given by what the edges of a node lead to: the strong components in their order.
 use Rattle.std.specs.Prelude.{◌≡◌, ◌↔◌, ℕ, ◌<◌, ◌≤◌, ◌⊎◌, List, [], ◌∷◌, ◌++◌, Contains}
-pub use Rattle.graph_walk.specs.Graph.{Leads, start, along, AreMarks}
-
--- each of the two reaches the other
-abbrev pub AreMutual : (ℕ → List ℕ) → ℕ → ℕ → Type 0
-AreMutual out a b = Leads out a b × Leads out b a
+pub use Rattle.graph_walk.specs.Graph.{Leads, start, along, AreMarks, AreMutual}
 
 -- each edge from the component of a leads to a node that stands, or stays in the component
 abbrev pub IsReady : (ℕ → List ℕ) → List ℕ → ℕ → Type 0

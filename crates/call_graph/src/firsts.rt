@@ -1,13 +1,13 @@
 //! The first node of each component, the members of components, and the edges between them.
 
-ghost use Rattle.std.specs.Prelude.{◌≡◌, ℕ, ◌<◌, ◌≤◌, ◌↔◌, ◌^◌, ◌+◌, ◌==◌, ◌&&◌, ◌++◌, ◌∷◌, [], true, false, List, Contains, IfOk, OnOk, length, slice_index_or, slice_set};
-ghost use Rattle.call_graph.specs.Firsts.{AreFirsts, AreFirstsBelow, IsPart, placed, set_if, pushed_if, between_firsts, unless_inside, edges_between, turned};
+ghost use Rattle.std.specs.Prelude.{◌≡◌, ℕ, ◌<◌, ◌^◌, ◌==◌, ◌++◌, ◌∷◌, [], Contains, IfOk, OnOk, length, slice_index_or, slice_set};
+ghost use Rattle.call_graph.specs.Firsts.{AreFirsts, IsPart, pushed_if, between_firsts, unless_inside, edges_between, turned};
 ghost use Rattle.call_graph.specs.Calls.{callees_in};
 ghost use Rattle.call_graph.specs.Walk.{listed, row_at};
 
 use crate::rows::{add_to, empty_rows, rows_of};
 use gimple_core::{Edge, OutOfMemory};
-use graph_walk::reached_in;
+use graph_walk::firsts_of;
 use std::alloc::Global as Heap;
 
 /// The first node of the component of each of so many nodes.
@@ -38,94 +38,6 @@ fn turned(alloc: Heap, edges: &[Edge]) -> Result<Vec<Edge>, OutOfMemory>
         })?;
     }
     Ok(around)
-}
-
-/// The first node of each node's component: that of a node is found by a walk along the edges and one along the edges
-/// turned around.
-fn firsts_of(alloc: Heap, rows: &[Vec<u32>], back: &[Vec<u32>]) -> Result<Vec<u32>, OutOfMemory>
-    requires few { length rows.now < 2 ^ 32 }
-    requires both { length back.now ≡ length rows.now }
-    requires ends { (a b : ℕ) → Contains (row_at rows.now a) b → b < length rows.now }
-    requires back_ends { (a b : ℕ) → Contains (row_at back.now a) b → b < length rows.now }
-    requires turned { (a b : ℕ) → Contains (row_at back.now b) a ↔ Contains (row_at rows.now a) b }
-    ensures { IfOk result (λ v. AreFirsts (row_at rows.now) (length rows.now) v.items) }
-{
-    let mut firsts = own_numbers(alloc, rows.len())?;
-    for node in 0..rows.len() {
-        place_component(alloc, rows, back, &mut firsts, node as u32)?;
-    }
-    Ok(firsts)
-}
-
-/// Each node's own number.
-fn own_numbers(alloc: Heap, nodes: usize) -> Result<Vec<u32>, OutOfMemory>
-    requires { nodes < 2 ^ 32 }
-    ensures one_each { IfOk result (λ v. length v.items ≡ nodes) }
-    ensures own { IfOk result (λ v. (a : ℕ) → a < nodes → slice_index_or v.items a 0 ≡ a) }
-{
-    let mut numbers = Vec::new(alloc);
-    for node in 0..nodes {
-        numbers.push(node as u32)?;
-    }
-    Ok(numbers)
-}
-
-/// The node is the first one of its component, where no earlier one is.
-fn place_component(
-    alloc: Heap,
-    rows: &[Vec<u32>],
-    back: &[Vec<u32>],
-    firsts: &mut Vec<u32>,
-    node: u32,
-) -> Result<(), OutOfMemory>
-    requires node { node < length rows.now }
-    requires both { length back.now ≡ length rows.now }
-    requires ends { (a b : ℕ) → Contains (row_at rows.now a) b → b < length rows.now }
-    requires back_ends { (a b : ℕ) → Contains (row_at back.now a) b → b < length rows.now }
-    requires turned { (a b : ℕ) → Contains (row_at back.now b) a ↔ Contains (row_at rows.now a) b }
-    requires before { AreFirstsBelow (row_at rows.now) (length rows.now) node firsts.old.items }
-    ensures { OnOk result (AreFirstsBelow (row_at rows.now) (length rows.now) (node + 1) firsts.new.items) }
-{
-    if firsts[node as usize] < node {
-        return Ok(());
-    }
-    let onward = reached_in(alloc, rows, node as usize)?;
-    let backward = reached_in(alloc, back, node as usize)?;
-    place_marked(firsts, onward.as_slice(), backward.as_slice(), node);
-    Ok(())
-}
-
-/// The node is the first one of what is marked twice.
-fn place_marked(firsts: &mut Vec<u32>, onward: &[bool], backward: &[bool], node: u32)
-    requires onward { length onward.now ≡ length firsts.old.items }
-    requires backward { length backward.now ≡ length firsts.old.items }
-    ensures one_each { length firsts.new.items ≡ length firsts.old.items }
-    ensures each { (m : ℕ) → m < length firsts.old.items → slice_index_or firsts.new.items m 0 ≡ placed (slice_index_or onward.now m false && slice_index_or backward.now m false) node (slice_index_or firsts.old.items m 0) }
-{
-    for m in 0..onward.len() {
-        place_if(firsts, both_marked(onward, backward, m), m, node);
-    }
-}
-
-fn both_marked(onward: &[bool], backward: &[bool], at: usize) -> bool
-    requires onward { at < length onward.now }
-    requires backward { at < length backward.now }
-    ensures { result ≡ (slice_index_or onward.now at false && slice_index_or backward.now at false) }
-{
-    if onward[at] {
-        return backward[at];
-    }
-    false
-}
-
-fn place_if(firsts: &mut Vec<u32>, is: bool, at: usize, node: u32)
-    requires { at < length firsts.old.items }
-    ensures { firsts.new.items ≡ set_if is firsts.old.items at node }
-{
-    if !is {
-        return;
-    }
-    firsts[at] = node;
 }
 
 /// The members of each component, ascending, at its first node.

@@ -1,2 +1,4 @@
 pub mod Graph
 pub mod Walk
+pub mod Search
+pub mod Components

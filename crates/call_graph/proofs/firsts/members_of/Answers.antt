@@ -1,7 +1,7 @@
 use Rattle.std.proofs.Common.{◌≡◌, ◌==◌, ◌<◌, ◌++◌, ◌∷◌, [], ◌∙◌, ℕ, ◌+◌, List, length, slice_index_or, refl, sym, subst, arith}
 use Rattle.call_graph.specs.Firsts.{IsPart}
 use Rattle.call_graph.specs.Walk.{row_at}
-use Rattle.call_graph.proofs.Firsting.{member_row, set_one_each}
+use Rattle.call_graph.proofs.Filling.{member_row, set_one_each}
 use Rattle.call_graph.proofs.Growing.{part_more}
 use Rattle.call_graph.proofs.firsts.members_of.Goals as goal
 

@@ -3,7 +3,7 @@ use Rattle.std.specs.List.{Contains}
 use Rattle.call_graph.specs.Walk.{listed, row_at}
 use Rattle.call_graph.specs.Queue.{AreTrimmed}
 use Rattle.call_graph.proofs.Filling.{row_is}
-use Rattle.call_graph.proofs.Firsting.{row_set}
+use Rattle.call_graph.proofs.Filling.{row_set}
 use Rattle.call_graph.proofs.Queueing.{row_replaced}
 use Rattle.call_graph.proofs.queue.trim_row.Goals as goal
 

@@ -5,7 +5,7 @@ use Rattle.gimple_ir.specs.declared.point.Edge.{Edge}
 use Rattle.call_graph.specs.Calls.{callees_in}
 use Rattle.call_graph.specs.Firsts.{edges_between}
 use Rattle.call_graph.specs.Walk.{row_at}
-use Rattle.call_graph.proofs.Members.{nothing}
+use Rattle.graph_walk.proofs.Parting.{nothing}
 use Rattle.call_graph.proofs.Edging.{between_begins, ends_between}
 use Rattle.call_graph.proofs.Queueing.{none_marked}
 use Rattle.call_graph.proofs.queue.unsettled.Goals as goal

@@ -5,5 +5,5 @@ use Rattle.graph_walk.proofs.walk.meet.Given as goal
 abbrev pub invariant-loop-node : goal.invariant-loop-node
 invariant-loop-node l = record {
   same : length l.marks.items ≡ length l.initial.marks.items;
-  left : met (drop l.node-index l.row) (record { marks = l.marks.items; pending = l.pending.items }) ≡ met l.row (record { marks = l.initial.marks.items; pending = l.initial.pending.items });
+  left : met (drop l.node-index l.row) (record { marks = l.marks.items; nodes = l.nodes.items }) ≡ met l.row (record { marks = l.initial.marks.items; nodes = l.initial.nodes.items });
 }
