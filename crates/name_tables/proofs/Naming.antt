@@ -1,12 +1,15 @@
 -- Names in a row, and the places of names.
-use Rattle.std.proofs.Common.{◌≡◌, ◌∙◌, ap, sym, refl, ℕ, ◌+◌, ◌≤◌, Bool, true, false, not, cond, nat_lt, ◌==◌, List, [], ◌∷◌, map, length, Option, Some, None, Bor, arith}
-use Rattle.std.specs.List.{position, position_or_len}
-use Rattle.std.specs.Option.{unwrap_or}
+use Rattle.std.proofs.Common.{◌≡◌, ◌∙◌, ap, sym, refl, ℕ, suc, ◌+◌, ◌≤◌, Bool, true, false, not, ◌||◌, cond, nat_lt, ◌==◌, List, [], ◌∷◌, map, length, Option, Some, None, slice_get, Bor, arith}
+use Rattle.std.specs.List.{position, position_or_len, find, list_any}
+use Rattle.std.specs.Option.{unwrap_or, is_some, option_copied}
+use Rattle.std.specs.Slice.{IsItemAt}
 use Rattle.std.specs.Str.{bytes_eq}
 use Rattle.std.proofs.lemmas.Bool.{ltb-false}
 use Rattle.std.proofs.lemmas.Bool.Decides.{nat_tests}
 use Rattle.std.proofs.lemmas.List.{length-map}
+use Rattle.std.proofs.lemmas.List.Folds.{find_at}
 use Rattle.std.proofs.lemmas.List.Sums.{prefix_len-le-length}
+use Rattle.std.proofs.lemmas.Option.{slice_get_past, slice_get-get_or}
 use Rattle.gimple_ir.specs.declared.declarations.Register.{Register}
 use Rattle.gimple_core.specs.Names.{same_name}
 use Rattle.gimple_core.proofs.EnvLemmas.{same_test}
@@ -69,3 +72,65 @@ register_place bytes key name keys rs r same found names =
     ∙ ap (λ (ns : List (List ℕ)). position (λ n. same_name n name) ns) names
     ∙ position_map (λ (s : Register). s.name) (λ n. same_name n name) (λ s. same_name s.name name) (λ s. refl) rs in
     ap (λ (o : Option ℕ). unwrap_or o (length rs)) at ∙ or_length (position_or_len (λ s. same_name s.name name) rs) (length rs) (prefix_len-le-length (λ (s : Register). not (same_name s.name name)) rs)
+
+-- ---- rows of things with names
+
+-- the place of a name among the names of a row is that of the first thing that has it
+pub place_in : {X : Type 0} (of : X → List ℕ) (xs : List X) (names : List (List ℕ)) (key name : List ℕ) (r : Option ℕ) → names ≡ map of xs → key ≡ name → r ≡ position (λ n. same_name n key) names → r ≡ position (λ x. same_name (of x) name) xs
+place_in of xs names key name r row same found =
+    found
+    ∙ ap (λ (k : List ℕ). position (λ n. same_name n k) names) same
+    ∙ ap (λ (ns : List (List ℕ)). position (λ n. same_name n name) ns) row
+    ∙ position_map of (λ n. same_name n name) (λ x. same_name (of x) name) (λ x. refl) xs
+
+-- what stands at the first place
+pub found_there : {X : Type 0} (p : X → Bool) (xs : List X) (k : ℕ) → position p xs ≡ Some k → slice_get xs k ≡ find p xs
+found_there p xs k h = by (nat_lt (position_or_len p xs) (length xs)) h
+  where
+    by : (b : Bool) → cond b (Some (position_or_len p xs)) None ≡ Some k → slice_get xs k ≡ find p xs
+    by true e =
+        let same : position_or_len p xs ≡ k = cc in
+        ap (slice_get xs) (sym same) ∙ sym (find_at p xs)
+    by false e = cc
+
+abbrev nowhere : Option ℕ
+nowhere = None
+
+-- without a place nothing is found
+pub found_nowhere : {X : Type 0} (p : X → Bool) (xs : List X) → position p xs ≡ None → find p xs ≡ None
+found_nowhere p xs h = by (nat_lt (position_or_len p xs) (length xs)) refl h
+  where
+    by : (b : Bool) → nat_lt (position_or_len p xs) (length xs) ≡ b → cond b (Some (position_or_len p xs)) None ≡ nowhere → find p xs ≡ None
+    by true e g = cc
+    by false e g = find_at p xs ∙ slice_get_past xs (position_or_len p xs) (ltb-false (position_or_len p xs) (length xs) e)
+
+any_step : (b : Bool) (n m : ℕ) (rest : Bool) → rest ≡ nat_lt n m → (b || rest) ≡ nat_lt (cond (not b) (1 + n) 0) (suc m)
+any_step true n m rest h = grind (arith, nat_tests)
+any_step false n m rest h =
+    let same : nat_lt n m ≡ nat_lt (1 + n) (suc m) = grind (arith, nat_tests) in
+    h ∙ same
+
+any_before : {X : Type 0} (p : X → Bool) (xs : List X) → list_any p xs ≡ nat_lt (position_or_len p xs) (length xs)
+any_before p [] = refl
+any_before p (x ∷ xs) = any_step (p x) (position_or_len p xs) (length xs) (list_any p xs) (any_before p xs)
+
+is_there : (b : Bool) (n : ℕ) → is_some (cond b (Some n) None) ≡ b
+is_there true n = refl
+is_there false n = refl
+
+-- whether one has a place
+pub any_placed : {X : Type 0} (p : X → Bool) (xs : List X) → is_some (position p xs) ≡ list_any p xs
+any_placed p xs = is_there (nat_lt (position_or_len p xs) (length xs)) (position_or_len p xs) ∙ sym (any_before p xs)
+
+-- ---- items of slices
+
+-- what a slice lends at a place is its item there
+pub item_there : {X : Type 0} (xs : List X) (i : ℕ) (r : Option (Bor X)) (x : Bor X) → IsItemAt xs i r → r ≡ Some x → slice_get xs i ≡ Some x.now
+item_there xs i None x h e = cc
+item_there {X} xs i (Some y) x h e =
+    let same : y ≡ x = cc in
+    slice_get-get_or xs i y.now h.3.0 ∙ (ap Some (sym h.1) ∙ ap (λ (z : Bor X). Some z.now) same)
+
+pub lent : {X : Type 0} (xs : List X) (i : ℕ) (r : Option (Bor X)) → IsItemAt xs i r → option_copied r ≡ slice_get xs i
+lent xs i None h = sym (slice_get_past xs i (omega (arith, h)))
+lent xs i (Some y) h = sym (item_there xs i (Some y) y h refl)

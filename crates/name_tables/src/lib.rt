@@ -1,12 +1,16 @@
-//! Rows of names, labels and registers, in which a long one is searched by hashing.
+//! Rows of names, labels, registers, globals and locals, in which a long one is searched by hashing.
 #![tactic(auto)]
 
 mod labels;
+mod named_globals;
+mod named_locals;
 mod names;
 mod register_table;
 #[cfg(test)]
 mod tests;
 
 pub use labels::Labels;
+pub use named_globals::NamedGlobals;
+pub use named_locals::NamedLocals;
 pub use names::Names;
 pub use register_table::RegisterTable;

@@ -69,11 +69,11 @@ impl<'a> Names<'a> {
     }
 
     /// The place of the first name that is this one; None exactly where no name is.
-    pub fn place(&self, name: &'a [u8]) -> Option<usize>
+    pub fn place(&self, name: &[u8]) -> Option<usize>
         ensures { result ≡ position (λ n. same_name n name.now) self.now }
     {
         if self.distinct && self.names.len() > FEW {
-            return self.set.get_index_of(&name);
+            return self.set.get_index_of(name);
         }
         place_from_front(self.names.as_slice(), name)
     }

@@ -1,7 +1,7 @@
 //! Rows that are long enough to be hashed, without and with a name that stands twice.
 
-use super::{Labels, Names, RegisterTable};
-use gimple_core::{OutOfMemory, Register, Scalar, Text};
+use super::{Labels, NamedGlobals, NamedLocals, Names, RegisterTable};
+use gimple_core::{Decl, Decls, Global, Globals, Items, OutOfMemory, Register, Scalar, Shape, Text};
 use std::alloc::Global as Heap;
 use std::test::Fail;
 
@@ -31,6 +31,34 @@ fn labels(alloc: Heap, labels: &[u64]) -> Result<Labels, OutOfMemory> {
         row.push(labels[at])?;
     }
     Ok(row)
+}
+
+fn variable(alloc: Heap, name: &[u8]) -> Result<Decl, OutOfMemory> {
+    Ok(Decl {
+        name: Text::from_bytes(alloc, name)?,
+        shape: Shape::Plain(Scalar::I32),
+        length: None,
+    })
+}
+
+fn locals(alloc: Heap, letters: &[u8]) -> Result<Decls, OutOfMemory> {
+    let mut all = Decls::new(alloc);
+    for at in 0..letters.len() {
+        all.push(variable(alloc, &[letters[at]])?)?;
+    }
+    Ok(all)
+}
+
+fn globals(alloc: Heap, letters: &[u8]) -> Result<Globals, OutOfMemory> {
+    let mut all = Globals::new(alloc);
+    for at in 0..letters.len() {
+        all.push(Global {
+            decl: variable(alloc, &[letters[at]])?,
+            constant: false,
+            items: Items::new(alloc),
+        })?;
+    }
+    Ok(all)
 }
 
 /// Whether the first register of the name is the one of this number.
@@ -73,5 +101,35 @@ fn labels_in_a_row(rt: HostRuntime) -> Result<(), Fail> {
     let twice = labels(alloc, &[2, 3, 5, 7, 11, 13, 17, 19, 23, 29, 3, 31])?;
     assert!(rt; twice.place(3) == Some(1));
     assert!(rt; twice.place(31) == Some(11));
+    Ok(())
+}
+
+#[test]
+fn globals_by_name(rt: HostRuntime) -> Result<(), Fail> {
+    let alloc = rt.alloc();
+    let row = globals(alloc, b"abcdefghijbk")?;
+    let (second, last, missing) = (
+        Text::from_bytes(alloc, b"b")?,
+        Text::from_bytes(alloc, b"k")?,
+        Text::from_bytes(alloc, b"z")?,
+    );
+    let table = NamedGlobals::new(alloc, row.as_slice())?;
+    assert!(rt; table.place(&second) == Some(1));
+    assert!(rt; table.place(&last) == Some(11));
+    assert!(rt; table.has(&last) && !table.has(&missing));
+    assert!(rt; table.named(&last).is_some() && table.get(12).is_none());
+    Ok(())
+}
+
+#[test]
+fn locals_by_name(rt: HostRuntime) -> Result<(), Fail> {
+    let alloc = rt.alloc();
+    let row = locals(alloc, b"abcdefghij")?;
+    let (last, missing) = (
+        Text::from_bytes(alloc, b"j")?,
+        Text::from_bytes(alloc, b"z")?,
+    );
+    let table = NamedLocals::new(alloc, row.as_slice())?;
+    assert!(rt; table.has(&last) && !table.has(&missing));
     Ok(())
 }
