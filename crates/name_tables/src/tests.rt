@@ -1,7 +1,9 @@
 //! Rows that are long enough to be hashed, without and with a name that stands twice.
 
 use super::{Labels, NamedGlobals, NamedLocals, Names, RegisterTable};
-use gimple_core::{Decl, Decls, Global, Globals, Items, OutOfMemory, Register, Scalar, Shape, Text};
+use gimple_core::{
+    Decl, Decls, Global, Globals, Items, OutOfMemory, Register, Scalar, Shape, Text,
+};
 use std::alloc::Global as Heap;
 use std::test::Fail;
 
