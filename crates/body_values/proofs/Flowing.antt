@@ -1,8 +1,5 @@
 -- What the flow of values along a branch is.
-use Rattle.std.proofs.Common.{◌≡◌, ℕ, ◌∷◌, List, length, sym, ◌∙◌, ap, subst, Option, Some, None, slice_get}
-use Rattle.std.specs.Slice.{IsItemAt}
-use Rattle.std.proofs.Common.{Bor}
-use Rattle.std.proofs.lemmas.Option.{slice_get-get_or}
+use Rattle.std.proofs.Common.{◌≡◌, ◌∷◌, List, length, sym, ◌∙◌, ap, subst, Option, Some, None, slice_get}
 use Rattle.gimple_ir.specs.declared.block.Block.{Block}
 use Rattle.fix_engine.specs.Rows.{FitsRows}
 use Rattle.fix_engine.specs.Lifted.{FitsLifted}
@@ -38,10 +35,3 @@ along_none B blocks o x e = sym (ap (λ p. along B blocks p x) e)
 pub fits_in : (s : Scene) (x : Lifted (List AbsVal)) → Carried s → FitsLifted (FitsRows FitsAbsVal) (length s.registers.now ∷ kind_of s.limits.now.size s.limits.now.ends) x → FitsIn s x
 fits_in s x c h =
     subst (λ us. LiftedFits s.limits.now.size us (length s.registers.now) x) (kind_is s.limits.now.size s.limits.now.ends (lawful_of s c)) (from_kind (kind_of s.limits.now.size s.limits.now.ends) (length s.registers.now) x h)
-
--- what a slice lends at a place is its item there
-pub item_there : {X : Type 0} (xs : List X) (i : ℕ) (r : Option (Bor X)) (x : Bor X) → IsItemAt xs i r → r ≡ Some x → slice_get xs i ≡ Some x.now
-item_there xs i None x h e = cc
-item_there {X} xs i (Some y) x h e =
-    let same : y ≡ x = cc in
-    slice_get-get_or xs i y.now h.3.0 ∙ (ap Some (sym h.1) ∙ ap (λ (z : Bor X). Some z.now) same)

@@ -13,6 +13,7 @@ pub mod Flowing
 pub mod BranchCounts
 pub mod Layouts
 pub mod Settled
+pub mod GivenFirst
 pub mod ExampleLaws
 pub mod FoundWhereLaws
 pub mod TopFit

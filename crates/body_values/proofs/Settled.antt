@@ -6,8 +6,10 @@ use Rattle.std.proofs.lemmas.Bool.{leb-true}
 use Rattle.std.proofs.lemmas.List.Sums.{sum_by-cons}
 use Rattle.std.proofs.lemmas.Option.{slice_get-get_or}
 use Rattle.gimple_ir.specs.declared.statement.Stmt.{Stmt}
+use Rattle.gimple_ir.specs.declared.declarations.Decl.{Decl}
 use Rattle.gimple_ir.specs.declared.declarations.Global.{Global}
 use Rattle.gimple_ir.specs.declared.declarations.Register.{Register}
+use Rattle.gimple_ir.specs.declared.declarations.StructDef.{StructDef}
 use Rattle.gimple_ir.specs.declared.block.Block.{Block}
 use Rattle.gimple_ir.specs.declared.program.Function.{Function}
 use Rattle.gimple_ir.specs.declared.program.Program.{Program}
@@ -31,11 +33,12 @@ use Rattle.body_values.specs.declared.scene.Scene.{Scene}
 use Rattle.body_values.specs.Bodies.{Body, where_reached, after_stmt, after_body}
 use Rattle.body_values.specs.Fitting.{fits_by, is_fitting, file_by, is_file}
 use Rattle.body_values.specs.Flow.{given_load, body_of, entry_row, branches_of, equations_of, body_at, value_or, values_at}
+use Rattle.body_values.specs.GivenLoads.{GivenLoads}
 use Rattle.body_values.specs.Found.{OfFunction, Found, AreFound, found_row, is_index, point_row}
 use Rattle.body_values.specs.PointRows.{rows_from, block_rows}
 use Rattle.body_values.specs.Ready.{loads_by, Carried, AreFew}
 use Rattle.body_values.specs.Scenes.{body_in, FitsIn}
-use Rattle.body_values.specs.Setting.{IsGiven, IsSceneOf, AreBegins, AreRows, WereFound}
+use Rattle.body_values.specs.Setting.{IsGiven, IsSceneBy, IsSceneOf, AreBegins, AreRows, WereFound}
 use Rattle.body_values.specs.System.{FactsFit, entry_fits}
 use Rattle.body_values.proofs.Flowing.{fits_in}
 use Rattle.gimple_core.proofs.AcceptedLayouts.{global_layout}
@@ -46,15 +49,27 @@ are_loads : (most : ℕ) (ts : List ℤ) (loads : List LoadFact) → Each (λ x.
 are_loads most ts [] h = refl
 are_loads most ts (x ∷ loads) h = both (fits_by most ts x.value) (loads_by most ts loads) (is_fitting most ts x.value h.0) (are_loads most ts loads h.1)
 
-abbrev KnowsIn : Program → Type 0
-KnowsIn p = (name : List ℕ) (g : Global) → find (λ g. same_name g.decl.name name) p.globals ≡ Some g → HasLayout p.structs g.decl
+abbrev KnowsIn : List StructDef → List Global → Type 0
+KnowsIn structs globals = (name : List ℕ) (g : Global) → find (λ g. same_name g.decl.name name) globals ≡ Some g → HasLayout structs g.decl
+
+-- a scene of the function's parts
+pub scene_is : (s : Scene) (p : Program) (n : ℕ) (f : Function) (facts : Facts) (limits : Limits) (globals : List Global) (locals slots : List Decl) (rs : List Register) (loads : GivenLoads) (given : List LoadFact) → IsSceneBy s p globals locals rs loads limits →
+    globals ≡ p.globals → locals ≡ slots → slots ≡ f.locals → rs ≡ f.params ++ f.registers → loads ≡ record { facts = given; function = n } → given ≡ facts.loads → IsSceneOf s p n f facts limits
+scene_is s p n f facts limits globals locals slots rs loads given h a b c d e g = record {
+  program = h.program;
+  globals = h.named ∙ a;
+  locals = h.own ∙ (b ∙ c);
+  registers = h.registers ∙ d;
+  loads = h.given ∙ (e ∙ (λ i. record { facts = g i; function = n }));
+  thresholds = h.thresholds;
+}
 
 pub carried_of : (s : Scene) (p : Program) (n : ℕ) (f : Function) (facts : Facts) (limits : Limits) → IsSceneOf s p n f facts limits → IsGiven p f facts limits → Carried s
 carried_of s p n f facts limits h g =
-    let loads : loads_by s.limits.now.size s.limits.now.ends s.loads.now ≡ loads_by limits.size limits.ends facts.loads = λ i. loads_by (h.thresholds i).size (h.thresholds i).ends (h.loads i) in
+    let loads : loads_by s.limits.now.size s.limits.now.ends s.loads.now.facts ≡ loads_by limits.size limits.ends facts.loads = λ i. loads_by (h.thresholds i).size (h.thresholds i).ends (h.loads i).facts in
     record {
-      few = subst (λ (q : Program). length q.globals < 2 ^ 32) (sym h.program) g.globals;
-      layouts = subst KnowsIn (sym h.program) (global_layout p g.accepted);
+      few = subst (λ (gs : List Global). length gs < 2 ^ 32) (sym h.globals) g.globals;
+      layouts = subst (λ (gs : List Global). KnowsIn s.program.now.structs gs) (sym h.globals) (subst (λ (q : Program). KnowsIn q.structs p.globals) (sym h.program) (global_layout p g.accepted));
       ends = ap (λ (l : Limits). l.ends) h.thresholds ∙ (g.ends ∙ ap thresholds_list (sym h.program));
       loads = loads ∙ are_loads limits.size limits.ends facts.loads g.fit.loads;
     }
@@ -164,12 +179,12 @@ row_at_point B bs xs e k i =
 body_is : (s : Scene) (p : Program) (n : ℕ) (f : Function) (facts : Facts) (limits : Limits) → IsSceneOf s p n f facts limits → body_in s ≡ body_of p n f facts limits.size limits.ends
 body_is s p n f facts limits h = λ i. record {
   structs = (h.program i).structs;
-  globals = (h.program i).globals;
+  globals = h.globals i;
   locals = h.locals i;
   registers = h.registers i;
   most = (h.thresholds i).size;
   ends = (h.thresholds i).ends;
-  loads = given_load (h.loads i) (h.number i);
+  loads = given_load (h.loads i).facts (h.loads i).function;
 }
 
 found_by : (p : Program) (n : ℕ) (f : Function) (facts : Facts) (limits : Limits) (rs : List Register) (rows : List (List (Lifted (List AbsVal)))) → rs ≡ f.params ++ f.registers →

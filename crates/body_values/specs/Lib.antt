@@ -1,6 +1,7 @@
 pub mod Constants
 pub mod Bodies
 pub mod Flow
+pub mod GivenLoads
 pub mod Rows
 pub mod Rising
 pub mod System

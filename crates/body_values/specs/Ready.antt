@@ -29,10 +29,10 @@ loads_are most ts (x ∷ loads) h = (fits_is most ts x.value (and_left (fits_by 
 
 -- globals have numbers and layouts, the thresholds are the program's, and the facts of loads fit
 pub record Carried (s : Scene) : Type 0 where
-  pub few : length s.program.now.globals < 2 ^ 32
+  pub few : length s.globals.now < 2 ^ 32
   pub layouts : KnowsLayouts s
   pub ends : s.limits.now.ends ≡ thresholds_list s.program.now
-  pub loads : loads_by s.limits.now.size s.limits.now.ends s.loads.now ≡ true
+  pub loads : loads_by s.limits.now.size s.limits.now.ends s.loads.now.facts ≡ true
 
 pub lawful_of : (s : Scene) → Carried s → IsLawful s.limits.now.ends
 lawful_of s c = subst IsLawful (sym c.ends) (list_lawful s.program.now)
@@ -41,7 +41,7 @@ pub ready_of : (s : Scene) → Carried s → IsReady s
 ready_of s c = record {
   few = c.few;
   layouts = c.layouts;
-  loads = λ k i. given_fits (FitsWith s.limits.now.size s.limits.now.ends) s.loads.now s.number k i (loads_are s.limits.now.size s.limits.now.ends s.loads.now c.loads);
+  loads = λ k i. given_fits (FitsWith s.limits.now.size s.limits.now.ends) s.loads.now.facts s.loads.now.function k i (loads_are s.limits.now.size s.limits.now.ends s.loads.now.facts c.loads);
 }
 
 pub carried_laws : (s : Scene) (blocks : List Block) (entry : Lifted (List AbsVal)) → Carried s → file_by s.limits.now.size s.limits.now.ends (length s.registers.now) entry ≡ true →

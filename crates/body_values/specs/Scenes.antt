@@ -17,12 +17,12 @@ use Rattle.body_values.specs.Rising.{LoadsFit}
 abbrev pub body_in : Scene → Body
 body_in s = record {
   structs = s.program.now.structs;
-  globals = s.program.now.globals;
+  globals = s.globals.now;
   locals = s.locals.now;
   registers = s.registers.now;
   most = s.limits.now.size;
   ends = s.limits.now.ends;
-  loads = given_load s.loads.now s.number;
+  loads = given_load s.loads.now.facts s.loads.now.function;
 }
 
 -- the values of the registers fit
@@ -36,11 +36,11 @@ pub record IsGoodIn (s : Scene) (scalar : Scalar) (a : AbsVal) : Type 0 where
 
 -- each global has a layout
 abbrev pub KnowsLayouts : Scene → Type 0
-KnowsLayouts s = (name : List ℕ) (g : Global) → find (λ g. same_name g.decl.name name) s.program.now.globals ≡ Some g → HasLayout s.program.now.structs g.decl
+KnowsLayouts s = (name : List ℕ) (g : Global) → find (λ g. same_name g.decl.name name) s.globals.now ≡ Some g → HasLayout s.program.now.structs g.decl
 
 -- globals have numbers and layouts, and the facts of loads fit
 pub record IsReady (s : Scene) : Type 0 where
-  pub few : length s.program.now.globals < 2 ^ 32
+  pub few : length s.globals.now < 2 ^ 32
   pub layouts : KnowsLayouts s
   pub loads : LoadsFit (body_in s)
 

@@ -1,6 +1,9 @@
 -- What the values of a function are made from.
 use Rattle.std.specs.Prelude.{◌≡◌, ℕ, ◌<◌, ◌^◌, List, ◌∷◌, ◌++◌, length, Some, slice_get}
 use Rattle.gimple_ir.specs.declared.block.Block.{Block}
+use Rattle.gimple_ir.specs.declared.declarations.Decl.{Decl}
+use Rattle.gimple_ir.specs.declared.declarations.Global.{Global}
+use Rattle.gimple_ir.specs.declared.declarations.Register.{Register}
 use Rattle.gimple_ir.specs.declared.program.Function.{Function}
 use Rattle.gimple_ir.specs.declared.program.Program.{Program}
 use Rattle.gimple_core.specs.Sealed.{IsAccepted}
@@ -17,6 +20,7 @@ use Rattle.body_values.specs.declared.scene.Scene.{Scene}
 use Rattle.body_values.specs.Bodies.{Body}
 use Rattle.body_values.specs.Flow.{branches_of, equations_of}
 use Rattle.body_values.specs.Found.{Found, AreFound}
+use Rattle.body_values.specs.GivenLoads.{GivenLoads}
 use Rattle.body_values.specs.PointRows.{block_rows}
 use Rattle.body_values.specs.System.{FactsFit}
 
@@ -29,13 +33,22 @@ pub record IsGiven (p : Program) (f : Function) (facts : Facts) (limits : Limits
   pub ends : limits.ends ≡ thresholds_list p
   pub fit : FactsFit f facts limits.size limits.ends
 
+-- a scene of these parts
+pub record IsSceneBy (s : Scene) (p : Program) (globals : List Global) (locals : List Decl) (rs : List Register) (loads : GivenLoads) (limits : Limits) : Type 0 where
+  pub program : s.program.now ≡ p
+  pub named : s.globals.now ≡ globals
+  pub own : s.locals.now ≡ locals
+  pub registers : s.registers.now ≡ rs
+  pub given : s.loads.now ≡ loads
+  pub thresholds : s.limits.now ≡ limits
+
 -- what the code has is that of the function
 pub record IsSceneOf (s : Scene) (p : Program) (n : ℕ) (f : Function) (facts : Facts) (limits : Limits) : Type 0 where
   pub program : s.program.now ≡ p
-  pub number : s.number ≡ n
+  pub globals : s.globals.now ≡ p.globals
   pub locals : s.locals.now ≡ f.locals
   pub registers : s.registers.now ≡ f.params ++ f.registers
-  pub loads : s.loads.now ≡ facts.loads
+  pub loads : s.loads.now ≡ record { facts = facts.loads; function = n }
   pub thresholds : s.limits.now ≡ limits
 
 -- the least solution of the system of a body

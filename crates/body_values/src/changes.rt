@@ -1,45 +1,24 @@
 //! The values after a statement, and after the statements of a block.
 
-ghost use Rattle.std.specs.Prelude.{◌≡◌, ◌<◌, ◌^◌, ◌+◌, length, IfOk, OnOk, MatchBool, ⊤, slice_get, Option, Some, None, find};
+ghost use Rattle.std.specs.Prelude.{◌≡◌, ◌<◌, ◌^◌, ◌+◌, length, IfOk, OnOk, MatchBool, ⊤, slice_get, Option, Some, None};
 ghost use Rattle.std.specs.Option.{option_copied};
 ghost use Rattle.fix_engine.specs.declared.lifted.Lifted.{Lifted};
 ghost use Rattle.fix_engine.specs.declared.lifted.Lifted.TheVariants.{NotReached, Reached};
 ghost use Rattle.value_domain.specs.Values.{is_none_val};
 ghost use Rattle.body_values.specs.Bodies.{register_scalar, put_value, brought_or, item_constant, slot_place, slot_value, constant_slot, item_value, load_value, target_of, result_value, is_abort, after_target, after_stmt, after_body};
-ghost use Rattle.body_values.specs.Flow.{is_point, given_load};
+ghost use Rattle.body_values.specs.Flow.{given_load};
 ghost use Rattle.body_values.specs.Scenes.{body_in, Fit, IsGoodIn, IsReady};
 ghost use Rattle.gimple_core.specs.Layout.{HasLayout};
 ghost use Rattle.gimple_core.specs.Memory.{same_scalar};
-ghost use Rattle.gimple_core.specs.Names.{same_name};
 ghost use Rattle.gimple_core.specs.Statements.{is_slot_at};
 
-use crate::facts::LoadFact;
-use crate::scene::{Scene, global_number, is_local_name, offset_of, pointer, scalar_of};
+use crate::scene::{Scene, offset_of, pointer, scalar_of};
 use fix_engine::Rows;
 use gimple_core::{
     Base, Constant, Global as Variable, LayoutSlot, Operand, OutOfMemory, Place, Point, Scalar,
     Stmt, Text, layout_of, same_name,
 };
 use value_domain::{AbsVal, exactly, into_scalar, top};
-
-fn is_at(point: Point, function: u32, block: u32, index: u32) -> bool
-    ensures { result ≡ is_point point function block index }
-{
-    point.function == function && (point.block == block && point.index == index)
-}
-
-/// The first fact of a point.
-fn fact_at<'a>(loads: &'a [LoadFact], function: u32, block: u32, index: u32) -> Option<&'a AbsVal>
-    ensures { option_copied result ≡ given_load loads.now function block index }
-{
-    match loads
-        .iter()
-        .find(|x| is_at(x.point, function, block, index))
-    {
-        Some(fact) => Some(&fact.value),
-        None => None,
-    }
-}
 
 /// The register that a statement assigns.
 pub fn target(statement: &Stmt) -> Option<&Text>
@@ -102,12 +81,6 @@ fn slot_number(slots: &[LayoutSlot], place: &Place, scalar: Scalar) -> Option<us
     slots.iter().position(|slot| is_slot(slot, place, scalar))
 }
 
-fn named_global<'a>(globals: &'a [Variable], name: &Text) -> Option<&'a Variable>
-    ensures { option_copied result ≡ find (λ g. same_name g.decl.name name.now) globals.now }
-{
-    globals.iter().find(|g| same_name(&g.decl.name, name))
-}
-
 fn aborts(statement: &Stmt) -> bool
     ensures { result ≡ is_abort statement.now }
 {
@@ -119,22 +92,22 @@ fn aborts(statement: &Stmt) -> bool
 
 impl<'a> Scene<'a> {
     fn given(&self, block: u32, index: u32, scalar: Scalar) -> Result<AbsVal, OutOfMemory>
-        ensures { IfOk result (λ v. v ≡ brought_or scalar (given_load self.now.loads.now self.now.number block index)) }
+        ensures { IfOk result (λ v. v ≡ brought_or scalar (given_load self.now.loads.now.facts self.now.loads.now.function block index)) }
     {
-        match fact_at(self.loads, self.number, block, index) {
+        match self.loads.at(block, index) {
             Some(value) => into_scalar(scalar, value),
             None => Ok(top(scalar)),
         }
     }
 
     fn item_of(&self, scalar: Scalar, item: Option<&Operand>) -> Constant
-        requires few { length self.now.program.now.globals < 2 ^ 32 }
-        ensures { result ≡ item_constant self.now.program.now.globals scalar (option_copied item.entry) }
+        requires few { length self.now.globals.now < 2 ^ 32 }
+        ensures { result ≡ item_constant self.now.globals.now scalar (option_copied item.entry) }
     {
         match item {
             Some(Operand::Number(value)) => Constant::Int(*value),
             Some(Operand::Address { variable, offset }) => {
-                match global_number(self.program.globals.as_slice(), variable) {
+                match self.globals.place(variable) {
                     Some(number) => Constant::Global {
                         number: number as u32,
                         offset: offset_of(*offset),
@@ -159,7 +132,7 @@ impl<'a> Scene<'a> {
         place: &Place,
         global: &Variable,
     ) -> Result<Option<AbsVal>, OutOfMemory>
-        requires few { length self.now.program.now.globals < 2 ^ 32 }
+        requires few { length self.now.globals.now < 2 ^ 32 }
         requires layout { HasLayout self.now.program.now.structs global.now.decl }
         ensures { IfOk result (λ v. v ≡ constant_slot (body_in self.now) scalar place.now.offset (Some global.now)) }
     {
@@ -186,10 +159,10 @@ impl<'a> Scene<'a> {
         let Base::Variable(name) = &place.base else {
             return Ok(None);
         };
-        if is_local_name(self.locals, name) {
+        if self.locals.has(name) {
             return Ok(None);
         }
-        match named_global(self.program.globals.as_slice(), name) {
+        match self.globals.named(name) {
             Some(global) => self.slot(scalar, place, global),
             None => Ok(None),
         }

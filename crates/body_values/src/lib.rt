@@ -11,6 +11,7 @@ mod facts;
 mod few_branches;
 mod flow;
 mod laws;
+mod load_table;
 mod point_rows;
 mod scene;
 #[cfg(test)]
@@ -26,6 +27,7 @@ pub use changes::{is_slot, target};
 pub use facts::{AbsVals, Facts, LoadFact, LoadFacts};
 pub use few_branches::has_few_branches;
 pub use laws::{body_values_cross, values_found, values_hold};
-pub use scene::{Scene, global_number, is_local_name, offset_of, pointer, scalar_of};
+pub use load_table::LoadTable;
+pub use scene::{Scene, offset_of, pointer, scalar_of};
 pub use tops::top_facts;
-pub use values::{BodyValues, values_of};
+pub use values::{BodyValues, values_in, values_of};

@@ -1,31 +1,27 @@
 //! What the values of registers depend on.
 
 ghost use Rattle.std.specs.Prelude.{◌≡◌, ◌<◌, ◌^◌, length, IfOk, IsTrue};
-ghost use Rattle.gimple_core.specs.Names.{same_name};
 ghost use Rattle.gimple_core.specs.Operators.{in_scalar};
 ghost use Rattle.gimple_core.specs.State.{offset_in};
 ghost use Rattle.value_domain.specs.ConstantOperators.{is_pointer};
-ghost use Rattle.body_values.specs.Bodies.{register_scalar, is_local, global_place, global_value, operand_value};
+ghost use Rattle.body_values.specs.Bodies.{register_scalar, global_place, global_value, operand_value};
 ghost use Rattle.body_values.specs.Scenes.{body_in, Fit, IsGoodIn};
 
-use crate::facts::LoadFact;
-use gimple_core::{
-    Constant, Decl, Global as Variable, Operand, OutOfMemory, Program, Scalar, Text, fits,
-    same_name,
-};
-use name_tables::RegisterTable;
+use crate::load_table::LoadTable;
+use gimple_core::{Constant, Operand, OutOfMemory, Program, Scalar, Text, fits};
+use name_tables::{NamedGlobals, NamedLocals, RegisterTable};
 use std::alloc::Global;
 use value_domain::{AbsVal, Thresholds, exactly, into_scalar, top};
 
-/// What the values in a body depend on: the program, the function's locals and registers with the formals first, its
-/// number and facts of its loads, and the thresholds.
+/// What the values in a body depend on: the program and its globals, the function's locals and registers with the formals
+/// first, the facts of its loads, and the thresholds.
 #[derive(Clone, Copy)]
 pub struct Scene<'a> {
     pub program: &'a Program,
-    pub locals: &'a [Decl],
+    pub globals: &'a NamedGlobals<'a>,
+    pub locals: &'a NamedLocals<'a>,
     pub registers: &'a RegisterTable,
-    pub loads: &'a [LoadFact],
-    pub number: u32,
+    pub loads: &'a LoadTable<'a>,
     pub limits: &'a Thresholds,
     pub alloc: Global,
 }
@@ -66,26 +62,12 @@ pub fn offset_of(offset: i128) -> i64
     inside(offset) as i64
 }
 
-/// Whether a local has the name.
-pub fn is_local_name(locals: &[Decl], name: &Text) -> bool
-    ensures { result ≡ is_local locals.now name.now }
-{
-    locals.iter().any(|d| same_name(&d.name, name))
-}
-
-/// The number of the first global of a name.
-pub fn global_number(globals: &[Variable], name: &Text) -> Option<usize>
-    ensures { result ≡ global_place globals.now name.now }
-{
-    globals.iter().position(|g| same_name(&g.decl.name, name))
-}
-
 impl<'a> Scene<'a> {
     fn address(&self, scalar: Scalar, variable: &Text, offset: i128) -> Result<AbsVal, OutOfMemory>
-        requires few { length self.now.program.now.globals < 2 ^ 32 }
-        ensures { IfOk result (λ v. v ≡ global_value (body_in self.now) scalar (global_place self.now.program.now.globals variable.now) offset) }
+        requires few { length self.now.globals.now < 2 ^ 32 }
+        ensures { IfOk result (λ v. v ≡ global_value (body_in self.now) scalar (global_place self.now.globals.now variable.now) offset) }
     {
-        match global_number(self.program.globals.as_slice(), variable) {
+        match self.globals.place(variable) {
             None => Ok(top(scalar)),
             Some(number) => exactly(
                 self.alloc,
@@ -122,7 +104,7 @@ impl<'a> Scene<'a> {
         scalar: Scalar,
         operand: &Operand,
     ) -> Result<AbsVal, OutOfMemory>
-        requires few { length self.now.program.now.globals < 2 ^ 32 }
+        requires few { length self.now.globals.now < 2 ^ 32 }
         ensures { IfOk result (λ v. v ≡ operand_value (body_in self.now) row.now scalar operand.now) }
     {
         match operand {
@@ -132,7 +114,7 @@ impl<'a> Scene<'a> {
             }
             Operand::Null => exactly(self.alloc, scalar, Constant::Null, self.limits),
             Operand::Address { variable, offset } => {
-                if is_local_name(self.locals, variable) {
+                if self.locals.has(variable) {
                     return Ok(top(scalar));
                 }
                 self.address(scalar, variable, *offset)
@@ -148,7 +130,7 @@ impl<'a> Scene<'a> {
         scalar: Scalar,
         operand: &Operand,
     ) -> Result<AbsVal, OutOfMemory>
-        requires few { length self.now.program.now.globals < 2 ^ 32 }
+        requires few { length self.now.globals.now < 2 ^ 32 }
         requires fit { Fit self.now row.now }
         ensures value { IfOk result (λ v. v ≡ operand_value (body_in self.now) row.now scalar operand.now) }
         ensures good { IfOk result (IsGoodIn self.now scalar) }

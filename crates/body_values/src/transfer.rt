@@ -112,7 +112,7 @@ impl<'a> Scene<'a> {
         op: Op,
         right: &Operand,
     ) -> Result<AbsVal, OutOfMemory>
-        requires few { length self.now.program.now.globals < 2 ^ 32 }
+        requires few { length self.now.globals.now < 2 ^ 32 }
         requires fit { Fit self.now row.now }
         ensures { IfOk result (λ v. v ≡ arith_value (body_in self.now) row.now scalar (right_scalar (body_in self.now) scalar op right.now) left.now op right.now) }
     {
@@ -135,7 +135,7 @@ impl<'a> Scene<'a> {
         cmp: Cmp,
         right: &Operand,
     ) -> Result<AbsVal, OutOfMemory>
-        requires few { length self.now.program.now.globals < 2 ^ 32 }
+        requires few { length self.now.globals.now < 2 ^ 32 }
         requires fit { Fit self.now row.now }
         ensures { IfOk result (λ v. v ≡ compare_value (body_in self.now) row.now target (sides_scalar (body_in self.now) left.now right.now) left.now cmp right.now) }
     {
@@ -167,7 +167,7 @@ impl<'a> Scene<'a> {
         target: Scalar,
         from: &Operand,
     ) -> Result<AbsVal, OutOfMemory>
-        requires few { length self.now.program.now.globals < 2 ^ 32 }
+        requires few { length self.now.globals.now < 2 ^ 32 }
         requires fit { Fit self.now row.now }
         ensures { IfOk result (λ v. v ≡ convert_value (body_in self.now) row.now target (source_scalar (body_in self.now) from.now) from.now) }
     {

@@ -1,6 +1,6 @@
 //! The values of a function's registers at each of its points.
 
-ghost use Rattle.std.specs.Prelude.{◌≡◌, ◌+◌, ◌<◌, ◌^◌, ◌++◌, length, true, IfOk, OnOk, OnErr};
+ghost use Rattle.std.specs.Prelude.{◌≡◌, ◌+◌, ◌<◌, ◌^◌, length, true, IfOk, OnOk, OnErr};
 ghost use Rattle.std.specs.Option.{option_copied};
 ghost use Rattle.gimple_core.specs.Size.{size_of_program};
 ghost use Rattle.value_domain.specs.Thresholds.{thresholds_list};
@@ -10,7 +10,7 @@ ghost use Rattle.body_values.specs.Found.{OfFunction, AreFound, found_at, found_
 ghost use Rattle.body_values.specs.FoundWhere.{is_reached, reached_at};
 ghost use Rattle.body_values.specs.Ready.{Carried, AreFew};
 ghost use Rattle.body_values.specs.Scenes.{body_in};
-ghost use Rattle.body_values.specs.Setting.{IsGiven, IsSceneOf, AreBegins, AreRows, WereFound};
+ghost use Rattle.body_values.specs.Setting.{IsGiven, IsSceneBy, AreBegins, AreRows, WereFound};
 ghost use Rattle.body_values.specs.System.{FactsFit};
 
 use crate::block_values::{BlockValues, PointRow};
@@ -18,10 +18,11 @@ use crate::branching::branches_of;
 use crate::entry::{entry_row, registers_of};
 use crate::facts::Facts;
 use crate::flow::ValueFlow;
+use crate::load_table::LoadTable;
 use crate::scene::Scene;
 use fix_engine::{Lifted, Rows, Solver};
 use gimple_core::{Block, Checked, Function, Listed, OutOfMemory, Params, Point, Program, Text};
-use name_tables::RegisterTable;
+use name_tables::{NamedGlobals, NamedLocals, RegisterTable};
 use std::alloc::Global;
 use std::marker::Model;
 use value_domain::{AbsVal, Thresholds, thresholds_of};
@@ -191,22 +192,21 @@ fn rows_of<'a, S: Solver>(
 
 fn scene_of<'a>(
     program: &'a Program,
-    number: u32,
-    function: &'a Function,
+    globals: &'a NamedGlobals<'a>,
+    locals: &'a NamedLocals<'a>,
     registers: &'a RegisterTable,
-    facts: &'a Facts,
+    loads: &'a LoadTable<'a>,
     limits: &'a Thresholds,
     alloc: Global,
 ) -> Scene<'a>
-    requires { registers.now ≡ function.now.params ++ function.now.registers }
-    ensures { IsSceneOf result program.now number function.now facts.now limits.now }
+    ensures { IsSceneBy result program.now globals.now locals.now registers.now loads.now limits.now }
 {
     Scene {
         program,
-        locals: function.locals.as_slice(),
+        globals,
+        locals,
         registers,
-        loads: facts.loads.as_slice(),
-        number,
+        loads,
         limits,
         alloc,
     }
@@ -215,18 +215,24 @@ fn scene_of<'a>(
 fn values_with<S: Solver>(
     alloc: Global,
     program: &Program,
+    globals: &NamedGlobals,
     number: u32,
     function: &Function,
     facts: &Facts,
     limits: Thresholds,
     solver: &mut S,
 ) -> Result<BodyValues, OutOfMemory>
-    requires { IsGiven program.now function.now facts.now limits }
+    requires given { IsGiven program.now function.now facts.now limits }
+    requires named { globals.now ≡ program.now.globals }
     ensures { IfOk result (AreFound program.now number function.now facts.now limits) }
 {
     let registers = registers_of(alloc, function)?;
+    let locals = NamedLocals::new(alloc, function.locals.as_slice())?;
+    let loads = LoadTable::new(alloc, facts.loads.as_slice(), number)?;
     let entry = entry_row(alloc, function, facts.formals.as_slice(), &limits)?;
-    let scene = scene_of(program, number, function, &registers, facts, &limits, alloc);
+    let scene = scene_of(
+        program, globals, &locals, &registers, &loads, &limits, alloc,
+    );
     let rows = rows_of(scene, function.blocks.as_slice(), &entry, solver)?;
     Ok(BodyValues {
         function: number,
@@ -236,7 +242,39 @@ fn values_with<S: Solver>(
     })
 }
 
+/// As `values_of`, by a table of the program's globals, which can be made once for all functions.
+///
+/// Err is want of memory.
+pub fn values_in<S: Solver>(
+    alloc: Global,
+    program: &Checked,
+    globals: &NamedGlobals,
+    function: u32,
+    facts: &Facts,
+    solver: &mut S,
+    limits: &Params,
+) -> Result<BodyValues, OutOfMemory>
+    requires named { globals.now ≡ program.now.program.globals }
+    requires function { function < length program.now.program.functions }
+    requires globals { length program.now.program.globals < 2 ^ 32 }
+    requires size { size_of_program program.now.program < 2 ^ 32 }
+    requires branches { OfFunction program.now.program function (λ f. length (branches_of f.blocks) < 2 ^ 32) }
+    requires facts { OfFunction program.now.program function (λ f. FactsFit f facts.now limits.now.ipa_cp_value_list_size (thresholds_list program.now.program)) }
+    ensures values { IfOk result (λ v. OfFunction program.now.program function (λ f. AreFound program.now.program function f facts.now (record { size = limits.now.ipa_cp_value_list_size; ends = thresholds_list program.now.program }) v)) }
+    ensures found { IfOk result (WereFound program.now.program function) }
+{
+    let thresholds = thresholds_of(alloc, program, limits)?;
+    let program = program.program();
+    let of = &program.functions.as_slice()[function as usize];
+    let values = values_with(
+        alloc, program, globals, function, of, facts, thresholds, solver,
+    )?;
+    Ok(values)
+}
+
 /// The values of a function's registers at each of its points, from facts of its formals and loads.
+///
+/// Err is want of memory.
 pub fn values_of<S: Solver>(
     alloc: Global,
     program: &Checked,
@@ -253,9 +291,7 @@ pub fn values_of<S: Solver>(
     ensures values { IfOk result (λ v. OfFunction program.now.program function (λ f. AreFound program.now.program function f facts.now (record { size = limits.now.ipa_cp_value_list_size; ends = thresholds_list program.now.program }) v)) }
     ensures found { IfOk result (WereFound program.now.program function) }
 {
-    let thresholds = thresholds_of(alloc, program, limits)?;
-    let program = program.program();
-    let of = &program.functions.as_slice()[function as usize];
-    let values = values_with(alloc, program, function, of, facts, thresholds, solver)?;
+    let globals = NamedGlobals::new(alloc, program.program().globals.as_slice())?;
+    let values = values_in(alloc, program, &globals, function, facts, solver, limits)?;
     Ok(values)
 }

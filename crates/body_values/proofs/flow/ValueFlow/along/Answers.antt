@@ -2,7 +2,8 @@ use Rattle.std.proofs.Common.{rules, ◌≡◌, ◌<◌, ◌^◌, length, sym, s
 use Rattle.fix_engine.specs.declared.lifted.Lifted.TheVariants.{NotReached, Reached}
 use Rattle.body_values.specs.Bodies.{after_body}
 use Rattle.body_values.specs.Scenes.{body_in}
-use Rattle.body_values.proofs.Flowing.{along_to, along_gone, item_there}
+use Rattle.name_tables.proofs.Naming.{item_there}
+use Rattle.body_values.proofs.Flowing.{along_to, along_gone}
 use Rattle.body_values.proofs.flow.ValueFlow.along.Goals as goal
 
 pub returns-in-NotReached : goal.returns-in-NotReached

@@ -1,7 +1,8 @@
 use Rattle.std.proofs.Common.{◌≡◌, ◌∙◌, sym, ap, subst, IfOk, Some, slice_get}
 use Rattle.body_values.specs.Flow.{along, branches_of}
 use Rattle.body_values.specs.Scenes.{body_in}
-use Rattle.body_values.proofs.Flowing.{fits_in, item_there}
+use Rattle.name_tables.proofs.Naming.{item_there}
+use Rattle.body_values.proofs.Flowing.{fits_in}
 use Rattle.body_values.proofs.flow.ValueFlowFlow.flow.Goals as goal
 
 pub along-requires : goal.along-requires

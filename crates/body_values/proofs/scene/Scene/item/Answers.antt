@@ -10,5 +10,5 @@ slot-requires-clause-layout c = c.requires.ready.layouts c.in-Variable.name c.in
 
 pub returns-in-Some : goal.returns-in-Some
 returns-in-Some c =
-    let found : find (λ g. same_name g.decl.name c.in-Variable.name) c.args.self.now.program.now.globals ≡ Some c.in-Some.global.now = search rules in
+    let found : find (λ g. same_name g.decl.name c.in-Variable.name) c.args.self.now.globals.now ≡ Some c.in-Some.global.now = search rules in
     subst (λ x. IfOk c.slot.result (λ v. v ≡ x)) (sym (item_is (body_in c.args.self.now) c.args.scalar c.args.place.now c.in-Variable.name (search rules) (search rules) (Some c.in-Some.global.now) found)) c.slot.ensures

@@ -16,6 +16,6 @@ pub returns : goal.returns
 returns c =
     let layout : c.in_ok-layout.layout ≡ layout_of c.args.self.now.program.now.structs c.args.global.now.decl = search rules in
     let place : slot_place c.in_ok-layout.layout.slots c.args.place.now.offset c.args.scalar ≡ Some c.in-Some.number = search rules in
-    let constant : c.item_of-constant.result ≡ item_constant c.args.self.now.program.now.globals c.args.scalar (slice_get c.args.global.now.items c.in-Some.number) = search rules in
+    let constant : c.item_of-constant.result ≡ item_constant c.args.self.now.globals.now c.args.scalar (slice_get c.args.global.now.items c.in-Some.number) = search rules in
     slot_some (body_in c.args.self.now) c.args.scalar c.args.place.now.offset c.args.global.now c.in_ok-layout.layout.slots c.in-Some.number _ (search rules) (ap (λ l. l.slots) layout) place
     (c.in_ok-value-in-Some.ensures ∙ ap (of_constant c.args.self.now.limits.now.size c.args.self.now.limits.now.ends c.args.scalar) constant)

@@ -2,10 +2,10 @@ use Rattle.std.proofs.Common.{◌≡◌, Some, slice_get, sym, subst}
 use Rattle.body_values.specs.Found.{AreFound}
 use Rattle.body_values.specs.Setting.{IsGiven}
 use Rattle.body_values.proofs.Settled.{numbered, given_by, found_in, were_found}
-use Rattle.body_values.proofs.values.values_of.Goals as goal
+use Rattle.body_values.proofs.values.values_in.Goals as goal
 
-pub values_with-requires : goal.values_with-requires
-values_with-requires g c =
+pub values_with-requires-clause-given : goal.values_with-requires-clause-given
+values_with-requires-clause-given g c =
     let there : slice_get c.args.program.now.program.functions c.args.function ≡ Some c.index-as_slice-function.result =
     numbered c.program-program.result.now c.args.program.now.program c.as_slice.result.now c.args.function c.index-as_slice-function.result c.program-program.ensures.same c.as_slice.ensures c.requires.function c.index-as_slice-function.is in
     subst (λ q. IsGiven q c.index-as_slice-function.result c.args.facts.now c.in_ok-thresholds.thresholds) (sym c.program-program.ensures.same)
