@@ -6,6 +6,7 @@ use Rattle.std.proofs.lemmas.Option.{slice_get_within}
 use Rattle.gimple_ir.specs.declared.block.Block.{Block}
 use Rattle.gimple_ir.specs.declared.declarations.Global.{Global}
 use Rattle.gimple_ir.specs.declared.declarations.Register.{Register}
+use Rattle.gimple_ir.specs.declared.declarations.StructDef.{StructDef}
 use Rattle.gimple_ir.specs.declared.program.Function.{Function}
 use Rattle.gimple_ir.specs.declared.program.Program.{Program}
 use Rattle.gimple_core.specs.Layout.{HasLayout}
@@ -90,8 +91,8 @@ foldable p n f t own accepted globals size w =
 
 -- ---- what its folder keeps
 
-abbrev KnowsIn : Program → Type 0
-KnowsIn p = (name : List ℕ) (g : Global) → find (λ g. same_name g.decl.name name) p.globals ≡ Some g → HasLayout p.structs g.decl
+abbrev KnowsIn : List StructDef → List Global → Type 0
+KnowsIn structs globals = (name : List ℕ) (g : Global) → find (λ g. same_name g.decl.name name) globals ≡ Some g → HasLayout structs g.decl
 
 module _ (s : Folder) (p : Program) (n : ℕ) (f : Function) (t : Found) (h : IsFolderOf s p f t) (g : IsFoldable p n f t) where
   law : IsLawful t.limits.ends
@@ -102,13 +103,14 @@ module _ (s : Folder) (p : Program) (n : ℕ) (f : Function) (t : Found) (h : Is
 
   ready : IsReady s.scene
   ready = record {
-    few = subst (λ (q : Program). length q.globals < 2 ^ 32) (sym h.program) g.globals;
-    layouts = subst KnowsIn (sym h.program) (global_layout p g.accepted);
-    loads = λ k i. subst (λ loads. IfSome (given_load loads s.scene.number k i) (FitsWith s.scene.limits.now.size s.scene.limits.now.ends)) (sym h.loads) tt;
+    few = subst (λ (gs : List Global). length gs < 2 ^ 32) (sym h.globals) g.globals;
+    layouts = subst (λ (gs : List Global). KnowsIn s.scene.program.now.structs gs) (sym h.globals) (subst (λ (q : Program). KnowsIn q.structs p.globals) (sym h.program) (global_layout p g.accepted));
+    loads = λ k i. subst (λ loads. IfSome (given_load loads s.scene.loads.now.function k i) (FitsWith s.scene.limits.now.size s.scene.limits.now.ends)) (sym h.loads) tt;
   }
 
   pub is_folder : IsFolder s
   is_folder = record {
+    globals = h.globals ∙ ap (λ (q : Program). q.globals) (sym h.program);
     locals = h.locals ∙ ap (λ (x : Function). x.locals) (sym h.function);
     registers = registers_are ∙ ap (λ (x : Function). x.params ++ x.registers) (sym h.function);
     ready = ready;
@@ -148,12 +150,12 @@ module _ (s : Folder) (p : Program) (n : ℕ) (f : Function) (t : Found) (h : Is
     names = functions_by_name (h.program i).functions;
     body = record {
       structs = (h.program i).structs;
-      globals = (h.program i).globals;
+      globals = h.globals i;
       locals = h.locals i;
       registers = registers_are i;
       most = (h.limits i).size;
       ends = (h.limits i).ends;
-      loads = given_load (h.loads i) s.scene.number;
+      loads = given_load (h.loads i) s.scene.loads.now.function;
     };
   }
 

@@ -1,15 +1,11 @@
 -- Sides of comparisons and arguments with known constants put in.
-use Rattle.std.proofs.Common.{Bor, ◌≡◌, ℕ, zero, suc, ◌+◌, ◌<◌, Bool, true, false, if◌then◌else◌, List, [], ◌∷◌, ◌++◌, length, drop, refl, sym, ◌∙◌, ap, arith, append_assoc, drop-cons, get_or, Option, Some, None, slice_get}
-use Rattle.std.specs.Option.{option_copied}
-use Rattle.std.specs.Slice.{IsItemAt}
-use Rattle.std.proofs.lemmas.Option.{slice_get_past}
+use Rattle.std.proofs.Common.{◌≡◌, ℕ, zero, suc, ◌+◌, ◌<◌, Bool, true, false, if◌then◌else◌, List, [], ◌∷◌, ◌++◌, length, drop, refl, sym, ◌∙◌, ap, arith, append_assoc, drop-cons, get_or, Option, Some, None, slice_get}
 use Rattle.gimple_ir.specs.declared.scalar.Cmp.{Cmp}
 use Rattle.gimple_ir.specs.declared.declarations.Register.{Register}
 use Rattle.gimple_ir.specs.declared.operand.Operand.{Operand}
 use Rattle.gimple_core.specs.Verdict.{Verdict}
 use Rattle.gimple_core.specs.Statements as check
 use Rattle.value_domain.specs.declared.abs_val.AbsVal.{AbsVal}
-use Rattle.body_values.proofs.Flowing.{item_there}
 use Rattle.body_fold.specs.Fold.{Folding, passes, is_put, put_or, constant_for, folded_operand, folded_left, folded_right, folded_arguments}
 use Rattle.body_fold.specs.Putting.{put_in, argument_of}
 
@@ -51,11 +47,6 @@ module _ (S : Folding) (row : List AbsVal) (left : Operand) (cmp : Cmp) (right :
       record { left_side = is ∙ sym (ap (λ b. if b then left else folded_operand S row (λ y. check.compared S.env y cmp right) left) h.0); right_side = sym h.1 }
 
 -- ---- arguments
-
--- what a slice lends is its item there
-pub lent : {X : Type 0} (xs : List X) (i : ℕ) (r : Option (Bor X)) → IsItemAt xs i r → option_copied r ≡ slice_get xs i
-lent xs i None h = sym (slice_get_past xs i (omega (arith, h)))
-lent xs i (Some y) h = sym (item_there xs i (Some y) y h refl)
 
 module _ (S : Folding) (row : List AbsVal) where
   no_formals : (xs : List Operand) → folded_arguments S row [] xs ≡ xs

@@ -26,6 +26,7 @@ NamesMean globals locals = (k : ℕ) (g : Global) → slice_get globals k ≡ So
 
 -- the scene is that of the function, the program's globals have numbers and layouts, and their names mean them
 pub record IsFolder (s : Folder) : Type 0 where
+  pub globals : s.scene.globals.now ≡ s.scene.program.now.globals
   pub locals : s.scene.locals.now ≡ s.function.now.locals
   pub registers : s.scene.registers.now ≡ s.function.now.params ++ s.function.now.registers
   pub ready : IsReady s.scene

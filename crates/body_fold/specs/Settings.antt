@@ -13,10 +13,11 @@ use Rattle.body_fold.specs.declared.folder.Folder.{Folder}
 -- the scene is that of the function and of its values, and nothing is given of loads
 pub record IsFolderOf (s : Folder) (p : Program) (f : Function) (t : Found) : Type 0 where
   pub program : s.scene.program.now ≡ p
+  pub globals : s.scene.globals.now ≡ p.globals
   pub function : s.function.now ≡ f
   pub locals : s.scene.locals.now ≡ f.locals
   pub registers : s.scene.registers.now ≡ t.registers
-  pub loads : s.scene.loads.now ≡ []
+  pub loads : s.scene.loads.now.facts ≡ []
   pub limits : s.scene.limits.now ≡ t.limits
 
 -- the function stands at this number of a program without a type fault, its parts have numbers, and the values are its own

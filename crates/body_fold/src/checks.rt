@@ -1,18 +1,16 @@
 //! Whether an operand passes the check of the place where it is put.
 
 ghost use Rattle.std.specs.Prelude.{◌≡◌, ◌&&◌, ◌||◌, not};
-ghost use Rattle.std.specs.List.{list_any};
 ghost use Rattle.gimple_core.specs.Env.{is_variable};
 ghost use Rattle.gimple_core.specs.Memory.{same_scalar};
-ghost use Rattle.gimple_core.specs.Names.{same_name};
 ghost use Rattle.gimple_core.specs.Statements as check;
 ghost use Rattle.value_domain.specs.ConstantOperators.{is_pointer};
 ghost use Rattle.body_fold.specs.Fold.{passes, right_check};
 ghost use Rattle.body_fold.specs.Folders.{folding_in, IsFolder};
 
 use crate::folder::Folder;
-use body_values::{is_local_name, pointer};
-use gimple_core::{Cmp, Global as Variable, Op, Operand, Scalar, Text, fits, same_name};
+use body_values::pointer;
+use gimple_core::{Cmp, Op, Operand, Scalar, Text, fits};
 
 fn same_scalar(left: Scalar, right: Scalar) -> bool
     ensures { result ≡ same_scalar left right }
@@ -32,20 +30,13 @@ fn is_printable(value: i128) -> bool
     fits(Scalar::I64, value) || fits(Scalar::U64, value)
 }
 
-/// Whether a global has the name.
-fn is_global_name(globals: &[Variable], name: &Text) -> bool
-    ensures { result ≡ list_any (λ g. same_name g.decl.name name.now) globals.now }
-{
-    globals.iter().any(|g| same_name(&g.decl.name, name))
-}
-
 impl<'a> Folder<'a> {
     /// Whether a local or a global has the name.
     fn is_variable(&self, name: &Text) -> bool
+        requires folder { IsFolder self.now }
         ensures { result ≡ is_variable (folding_in self.now).env name.now }
     {
-        is_local_name(self.function.locals.as_slice(), name)
-            || is_global_name(self.scene.program.globals.as_slice(), name)
+        self.scene.locals.has(name) || self.scene.globals.has(name)
     }
 
     /// Whether an operand passes the check of a place for a scalar.

@@ -11,7 +11,7 @@ ghost use Rattle.body_fold.specs.Folders.{folding_in, IsFolder};
 
 use crate::evaluation::{arithmetic, comparison, conversion};
 use crate::folder::Folder;
-use body_values::{global_number, is_local_name, offset_of, scalar_of};
+use body_values::{offset_of, scalar_of};
 use gimple_core::{Cmp, Constant, Op, Operand, OutOfMemory, Scalar, Stmt, Text};
 use value_domain::{AbsVal, known, may_trap};
 
@@ -35,10 +35,10 @@ impl<'a> Folder<'a> {
 
     /// The address of a global at an offset, as a constant.
     fn global(&self, name: &Text, offset: i128) -> Option<Constant>
-        requires few { length self.now.scene.program.now.globals < 2 ^ 32 }
-        ensures { result ≡ global_constant (global_place self.now.scene.program.now.globals name.now) offset }
+        requires few { length self.now.scene.globals.now < 2 ^ 32 }
+        ensures { result ≡ global_constant (global_place self.now.scene.globals.now name.now) offset }
     {
-        match global_number(self.scene.program.globals.as_slice(), name) {
+        match self.scene.globals.place(name) {
             Some(number) => Some(Constant::Global {
                 number: number as u32,
                 offset: offset_of(offset),
@@ -63,7 +63,7 @@ impl<'a> Folder<'a> {
             Operand::Number(value) => Ok(Some(Constant::Int(*value))),
             Operand::Null => Ok(Some(Constant::Null)),
             Operand::Address { variable, offset } => {
-                if is_local_name(self.scene.locals, variable) {
+                if self.scene.locals.has(variable) {
                     return Ok(None);
                 }
                 Ok(self.global(variable, *offset))
@@ -256,7 +256,7 @@ impl<'a> Folder<'a> {
         Ok(known(scalar, &value))
     }
 
-    /// What a comparison that passes its checks is known to give, 1 or 0.
+    /// What a comparison is known to give, 1 or 0.
     #[tactic(auto, unfolding(crate::specs::Fold::known_comparison))]
     pub(crate) fn known_comparison(
         &self,
@@ -267,7 +267,6 @@ impl<'a> Folder<'a> {
     ) -> Result<Option<Constant>, OutOfMemory>
         requires folder { IsFolder self.now }
         requires fit { Fit self.now.scene row.now }
-        requires passes { check.compared (folding_in self.now).env left.now cmp right.now ≡ Ok tt }
         ensures { IfOk result (λ c. c ≡ known_comparison (body_in self.now.scene) row.now left.now cmp right.now) }
     {
         self.scene.limits.known();

@@ -14,5 +14,5 @@ mod operands;
 mod places;
 mod statements;
 
-pub use folding::fold;
+pub use folding::{fold, fold_in};
 pub use laws::{folding_keeps_acceptance, folding_keeps_runs};

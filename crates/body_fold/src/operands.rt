@@ -37,14 +37,14 @@ impl<'a> Folder<'a> {
         &self,
         constant: Option<Constant>,
     ) -> Result<Option<Operand>, OutOfMemory>
-        ensures { IfOk result (λ y. y ≡ constant_operand self.now.scene.program.now.globals constant) }
+        ensures { IfOk result (λ y. y ≡ constant_operand self.now.scene.globals.now constant) }
     {
         match constant {
             None => Ok(None),
             Some(Constant::Int(value)) => Ok(Some(Operand::Number(value))),
             Some(Constant::Null) => Ok(Some(Operand::Null)),
             Some(Constant::Global { number, offset }) => {
-                match self.scene.program.globals.get(number as usize) {
+                match self.scene.globals.get(number as usize) {
                     None => Ok(None),
                     Some(global) => Ok(Some(Operand::Address {
                         variable: global.decl.name.copy()?,

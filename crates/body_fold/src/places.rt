@@ -81,7 +81,7 @@ impl<'a> Folder<'a> {
         place: &Place,
     ) -> Result<bool, OutOfMemory>
         requires folder { IsFolder self.now }
-        requires there { slice_get self.now.scene.program.now.globals number ≡ Some global.now }
+        requires there { slice_get self.now.scene.globals.now number ≡ Some global.now }
         requires base { place.now.base ≡ Base.Variable global.now.decl.name }
         requires fits { IsTrue (in_scalar Scalar.I64 place.now.offset) }
         ensures { IfOk result (λ b. b ≡ passes (access_check (folding_in self.now).env access scalar place.now)) }
@@ -102,9 +102,9 @@ impl<'a> Folder<'a> {
         start: i64,
     ) -> Result<Place, OutOfMemory>
         requires folder { IsFolder self.now }
-        ensures { IfOk result (λ q. q ≡ put_or (access_check (folding_in self.now).env access scalar) place.now (place_from self.now.scene.program.now.globals (Some (Constant.Global number start)) place.now.offset)) }
+        ensures { IfOk result (λ q. q ≡ put_or (access_check (folding_in self.now).env access scalar) place.now (place_from self.now.scene.globals.now (Some (Constant.Global number start)) place.now.offset)) }
     {
-        match self.scene.program.globals.get(number as usize) {
+        match self.scene.globals.get(number as usize) {
             None => place.copy(),
             Some(global) => {
                 let moved = place_in(&global.decl.name, start, place.offset)?;

@@ -3,7 +3,8 @@ use Rattle.std.specs.Option.{option_copied}
 use Rattle.body_fold.specs.Fold.{folded_arguments}
 use Rattle.body_fold.specs.Folders.{folding_in}
 use Rattle.body_fold.specs.Putting.{argument_of}
-use Rattle.body_fold.proofs.PutIn.{lent, next_argument}
+use Rattle.name_tables.proofs.Naming.{lent}
+use Rattle.body_fold.proofs.PutIn.{next_argument}
 use Rattle.body_fold.proofs.folder.Folder.arguments.Goals as goal
 
 pub loop-place-preserved : goal.loop-place-preserved

@@ -4,15 +4,15 @@ use Rattle.gimple_ir.specs.declared.program.Program.{Program}
 use Rattle.body_values.proofs.Settled.{numbered}
 use Rattle.body_fold.specs.Settings.{IsFoldable}
 use Rattle.body_fold.proofs.Foldable.{number_within, foldable}
-use Rattle.body_fold.proofs.folding.fold.Goals as goal
+use Rattle.body_fold.proofs.folding.fold_in.Goals as goal
 
 pub bounds-as_slice-function : goal.bounds-as_slice-function
 bounds-as_slice-function c =
     let within : c.args.function < length c.args.program.now.program.functions = number_within c.args.program.now.program c.args.function c.args.values.now c.requires.values in
     subst (λ (fs : List Function). c.args.function < length fs) (sym (c.as_slice.ensures ∙ ap (λ (p : Program). p.functions) c.program-program.ensures.same)) within
 
-pub fold_function-requires : goal.fold_function-requires
-fold_function-requires c =
+pub fold_function-requires-clause-foldable : goal.fold_function-requires-clause-foldable
+fold_function-requires-clause-foldable c =
     let within : c.args.function < length c.args.program.now.program.functions = number_within c.args.program.now.program c.args.function c.args.values.now c.requires.values in
     let there : slice_get c.args.program.now.program.functions c.args.function ≡ Some c.index-as_slice-function.result =
     numbered c.program-program.result.now c.args.program.now.program c.as_slice.result.now c.args.function c.index-as_slice-function.result c.program-program.ensures.same c.as_slice.ensures within c.index-as_slice-function.is in
