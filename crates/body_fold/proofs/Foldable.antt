@@ -34,7 +34,7 @@ use Rattle.body_values.specs.Scenes.{IsReady}
 use Rattle.body_values.specs.Setting.{WereFound}
 use Rattle.body_values.specs.System.{FactsFit}
 use Rattle.body_values.proofs.FoundWhereLaws.{row_fits}
-use Rattle.body_values.proofs.Layouts.{global_layout}
+use Rattle.gimple_core.proofs.AcceptedLayouts.{global_layout}
 use Rattle.body_values.proofs.Settled.{are_few}
 use Rattle.body_fold.specs.declared.folder.Folder.{Folder}
 use Rattle.body_fold.specs.Fold.{IsFolded}

@@ -1,5 +1,5 @@
 -- What the walk marks is what the ends lead to from the first block.
-use Rattle.std.proofs.Common.{◌≡◌, ◌↔◌, ◌⊎◌, inl, inr, ℕ, zero, suc, ◌+◌, ◌<◌, ◌==◌, nat_lt, append-nil, Bool, true, false, cond, not, if◌then◌else◌, List, [], ◌∷◌, ◌++◌, map, length, append_assoc, drop, get_or, refl, sym, ◌∙◌, ap, subst, arith, Some, None, slice_get, Vec}
+use Rattle.std.proofs.Common.{◌≡◌, ◌↔◌, ◌⊎◌, inl, inr, ℕ, zero, suc, ◌+◌, ◌<◌, ◌==◌, nat_lt, append-nil, Bool, true, false, cond, not, if◌then◌else◌, List, [], ◌∷◌, ◌++◌, length, append_assoc, drop, get_or, refl, sym, ◌∙◌, ap, subst, arith, Some, None, slice_get, Vec}
 use Rattle.std.specs.List.{Contains, position_or_len}
 use Rattle.std.specs.declared.alloc.Global.{Global}
 use Rattle.std.proofs.lemmas.List.{drop_more, map-append}

@@ -10,7 +10,7 @@ use Rattle.gimple_ir.specs.declared.block.End.TheVariants.{Goto, If, Switch, Ret
 use Rattle.gimple_ir.specs.declared.declarations.Register.{Register}
 use Rattle.gimple_ir.specs.declared.declarations.Global.{Global as GlobalDef}
 use Rattle.gimple_ir.specs.declared.statement.Stmt.{Stmt}
-use Rattle.gimple_ir.specs.declared.statement.Stmt.TheVariants.{Copy, Arith, Compare, Convert, Load, Store, Call, Get, Put, Abort}
+use Rattle.gimple_ir.specs.declared.statement.Stmt.TheVariants.{Call}
 use Rattle.gimple_ir.specs.declared.program.Function.{Function}
 use Rattle.gimple_ir.specs.declared.program.Program.{Program}
 use Rattle.gimple_core.specs.declared.machine.Cell.{Cell}
@@ -24,6 +24,7 @@ use Rattle.gimple_core.specs.Env.{named, functions_by_name}
 use Rattle.gimple_core.specs.Statements as s
 use Rattle.gimple_core.specs.Verdict.{found, demand}
 use Rattle.gimple_core.proofs.Passed.{first_passed, found_so}
+use Rattle.gimple_core.proofs.StepLemmas.{call_is}
 use Rattle.gimple_claims.specs.Bodies.{FactsClaim, IsAt, file_at, body_of as statements_of}
 use Rattle.gimple_claims.specs.Exits.{ToLabel, exit_of}
 use Rattle.gimple_claims.specs.Checks.{env_of, StmtsPass}
@@ -100,18 +101,6 @@ target_exit globals (Switch on cases other) st label x = ap ToLabel (some_of x)
 target_exit globals (Return operand) st label x = cc
 
 -- ---- calls
-
-pub call_is : (x : Stmt) (c : Calling) → call_of x ≡ Some c → x ≡ Call c.to c.callee c.arguments
-call_is (Copy to from) c e = cc
-call_is (Arith to left op right) c e = cc
-call_is (Compare to left cmp right) c e = cc
-call_is (Convert to scalar from) c e = cc
-call_is (Load to scalar place) c e = cc
-call_is (Store scalar place from) c e = cc
-call_is (Call to callee arguments) c e = let same : record { to = to; callee = callee; arguments = arguments } ≡ c = cc in ap (λ (z : Calling). Call z.to z.callee z.arguments) same
-call_is (Get to) c e = cc
-call_is (Put from) c e = cc
-call_is Abort c e = cc
 
 -- a call stays a call
 call_folded : (S : Folding) (j i : ℕ) (row : List AbsVal) (to : Option (List ℕ)) (callee : List ℕ) (xs : List Operand) → folded_stmt S j i row (Call to callee xs) ≡ Call to callee (folded_arguments S row (formals_of (named callee S.names)) xs)

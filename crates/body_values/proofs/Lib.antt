@@ -11,7 +11,6 @@ pub mod Written
 pub mod Refined
 pub mod Flowing
 pub mod BranchCounts
-pub mod Layouts
 pub mod Settled
 pub mod GivenFirst
 pub mod ExampleLaws

@@ -1,2 +1,0 @@
--- In a program without a type fault each global has a layout.
-pub use Rattle.gimple_core.proofs.AcceptedLayouts.{global_layout}
