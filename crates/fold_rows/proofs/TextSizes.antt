@@ -1,93 +1,12 @@
--- A program has no more parts than its text has bytes.
-use Rattle.std.proofs.Common.{◌≡◌, ℕ, ◌+◌, ◌≤◌, ◌<◌, ◌^◌, List, [], ◌∷◌, length, sum_by, false, refl, None, Some, ap, arith, length-append}
+-- What a text spells can be counted.
+use Rattle.std.proofs.Common.{◌≤◌, ◌<◌, ◌^◌, List, [], ◌∷◌, length, sum_by, arith}
 use Rattle.std.proofs.lemmas.List.Sums.{sum_by-cons}
-use Rattle.gimple_ir.specs.declared.statement.Stmt.{Stmt}
-use Rattle.gimple_ir.specs.declared.block.End.{End}
-use Rattle.gimple_ir.specs.declared.block.End.TheVariants.{Goto, If, Switch, Return}
-use Rattle.gimple_ir.specs.declared.block.Block.{Block}
-use Rattle.gimple_ir.specs.declared.declarations.Decl.{Decl}
 use Rattle.gimple_ir.specs.declared.declarations.StructDef.{StructDef}
-use Rattle.gimple_ir.specs.declared.declarations.Global.{Global}
-use Rattle.gimple_ir.specs.declared.program.Function.{Function}
 use Rattle.gimple_ir.specs.declared.program.Program.{Program}
-use Rattle.gimple_core.specs.Size.{size_of_block, size_of_function, size_of_program}
 use Rattle.gimple_types.specs.Counts.{IsCountable, AreNarrow}
-use Rattle.gimple_tokens.specs.declared.token.Token.{Token}
-use Rattle.gimple_tokens.specs.Lexing.{Bytes, LexesFrom, skip}
-use Rattle.gimple_tokens.proofs.Runs.{shorter, skip_length}
-use Rattle.token_law.specs.Reading.{Tokens}
-use Rattle.token_law.specs.Languages.{IsMany}
-use Rattle.gimple_grammar.specs.Grammar.{IsStmt, IsEnd, IsBlock, IsField, IsStruct, IsGlobal, IsFunction, IsProgram}
+use Rattle.gimple_tokens.specs.Lexing.{Bytes}
 use Rattle.gimple_text.specs.Parse.{Spells}
-
-module _ {A : Type 0} (S : A → Tokens → Type 0) (m : A → ℕ) (each : (x : A) (ts : Tokens) → S x ts → m x ≤ length ts) where
-  many_size : (xs : List A) (ts : Tokens) → IsMany S xs ts → sum_by m xs ≤ length ts
-  many_size [] ts h = omega arith
-  many_size (x ∷ xs) ts h = omega (arith, sum_by-cons m x xs, each x h.0 h.2, many_size xs h.1 h.3, length-append h.0 h.1, ap length h.4)
-
-counted : {A : Type 0} (xs : List A) → sum_by (λ _. 1) xs ≡ length xs
-counted [] = refl
-counted (x ∷ xs) = omega (arith, sum_by-cons (λ _. 1) x xs, counted xs)
-
-stmt_size : (x : Stmt) (ts : Tokens) → IsStmt x ts → 1 ≤ length ts
-stmt_size x ts h = omega (arith, simp length-append at (ap length h.2))
-
-end_size : (e : End) (ts : Tokens) → IsEnd e ts → 1 ≤ length ts
-end_size (Goto n) ts h = omega (arith, ap length h)
-end_size (If l c r first second) ts h = omega (arith, ap length h.4)
-end_size (Switch on cases other) ts h = omega (arith, ap length h.4)
-end_size (Return None) ts h = omega (arith, ap length h)
-end_size (Return (Some o)) ts h = omega (arith, ap length h.2)
-
-block_size : (b : Block) (ts : Tokens) → IsBlock b ts → size_of_block b ≤ length ts
-block_size b ts h =
-    omega (arith, many_size IsStmt (λ _. 1) stmt_size b.body h.0 h.2, counted b.body, end_size b.end h.1 h.3, simp length-append at (ap length h.4))
-
-field_size : (d : Decl) (ts : Tokens) → IsField d ts → 1 ≤ length ts
-field_size d ts h = omega (arith, simp length-append at (ap length h))
-
--- a struct's fields, and one for the struct
-abbrev width : StructDef → ℕ
-width x = 1 + length x.fields
-
-struct_size : (x : StructDef) (ts : Tokens) → IsStruct x ts → width x ≤ length ts
-struct_size x ts h = omega (arith, many_size IsField (λ _. 1) field_size x.fields h.0 h.1, counted x.fields, simp length-append at (ap length h.2))
-
-global_size : (g : Global) (ts : Tokens) → IsGlobal g ts → 1 ≤ length ts
-global_size g ts h = omega (arith, ap length h.2)
-
--- a function's size, and one for the function
-abbrev weight : Function → ℕ
-weight f = 1 + size_of_function f
-
-function_size : (f : Function) (ts : Tokens) → IsFunction f ts → weight f ≤ length ts
-function_size f ts h = omega (arith, many_size IsBlock size_of_block block_size f.blocks h.4 h.9, simp length-append at (ap length h.10))
-
-weights : (fs : List Function) → sum_by weight fs ≡ length fs + sum_by size_of_function fs
-weights [] = refl
-weights (f ∷ fs) = omega (arith, sum_by-cons weight f fs, sum_by-cons size_of_function f fs, weights fs)
-
-widths : (xs : List StructDef) → length xs ≤ sum_by width xs
-widths [] = omega arith
-widths (x ∷ xs) = omega (arith, sum_by-cons width x xs, widths xs)
-
-tokens_size : (p : Program) (ts : Tokens) → IsProgram p ts → sum_by width p.structs + (length p.globals + (length p.functions + size_of_program p)) ≤ length ts
-tokens_size p ts h = omega (
-  arith,
-  many_size IsStruct width struct_size p.structs h.0 h.3,
-  many_size IsGlobal (λ _. 1) global_size p.globals h.1 h.4,
-  counted p.globals,
-  many_size IsFunction weight function_size p.functions h.2 h.5,
-  weights p.functions,
-  simp length-append at (ap length h.6),
-)
-
-lexed_from : (bs : Bytes) (ts : List Token) → LexesFrom bs ts → length ts ≤ length bs
-lexed_from bs [] h = omega arith
-lexed_from bs (t ∷ ts) h = omega (arith, shorter bs t h.0 h.1, lexed_from (skip false h.0) ts h.2)
-
-spelled_size : (bs : Bytes) (p : Program) → Spells bs p → sum_by width p.structs + (length p.globals + (length p.functions + size_of_program p)) ≤ length bs
-spelled_size bs p h = omega (arith, tokens_size p h.tokens h.spelled, lexed_from (skip false bs) h.tokens h.lexed, skip_length false bs)
+use Rattle.gimple_text.proofs.SizeLaws.{width, widths, spelled_size}
 
 narrow : (xs : List StructDef) → sum_by width xs < 2 ^ 32 → AreNarrow xs
 narrow [] h = tt
