@@ -17,14 +17,14 @@ blocks-requires-clause-passes c = blocks_checked c.folder_of-folder.result c.arg
 
 pub linked-requires-clause-some : goal.linked-requires-clause-some
 linked-requires-clause-some c =
-    some_new c.folder_of-folder.result c.args.program.now c.args.number c.args.function.now c.args.values.now c.folder_of-folder.ensures c.requires.foldable c.as_slice.result.now (c.as_slice.ensures.value ∙ c.in_ok-all.ensures)
+    some_new c.folder_of-folder.result c.args.program.now c.args.number c.args.function.now c.args.values.now c.folder_of-folder.ensures c.requires.foldable c.as_slice-2.result.now (c.as_slice-2.ensures.value ∙ c.in_ok-all.ensures)
 
 pub linked-requires-clause-few : goal.linked-requires-clause-few
 linked-requires-clause-few c =
-    few_new c.folder_of-folder.result c.args.program.now c.args.number c.args.function.now c.args.values.now c.folder_of-folder.ensures c.requires.foldable c.as_slice.result.now (c.as_slice.ensures.value ∙ c.in_ok-all.ensures)
+    few_new c.folder_of-folder.result c.args.program.now c.args.number c.args.function.now c.args.values.now c.folder_of-folder.ensures c.requires.foldable c.as_slice-2.result.now (c.as_slice-2.ensures.value ∙ c.in_ok-all.ensures)
 
 pub returns : goal.returns
 returns c =
-    let left : c.in_ok-kept.kept.items ≡ marked_blocks c.in_ok-marks.marks.items c.as_slice.result.now = c.in_ok-kept.ensures ∙ (λ i. marked_blocks (c.as_slice-2.ensures.value i) (sym c.as_slice.ensures.value i)) in
-    folded_so c.folder_of-folder.result c.args.program.now c.args.number c.args.function.now c.args.values.now c.folder_of-folder.ensures c.requires.foldable c.as_slice.result.now c.in_ok-kept.kept.items c.in_ok-marks.marks.items c.in_ok-folded.folded
-    (c.as_slice.ensures.value ∙ c.in_ok-all.ensures) c.in_ok-marks.ensures left c.in_ok-folded.ensures
+    let left : c.in_ok-kept.kept.items ≡ marked_blocks c.in_ok-marks.marks.items c.as_slice-2.result.now = c.in_ok-kept.ensures ∙ (λ i. marked_blocks (c.as_slice-3.ensures.value i) (sym c.as_slice-2.ensures.value i)) in
+    folded_so c.folder_of-folder.result c.args.program.now c.args.number c.args.function.now c.args.values.now c.folder_of-folder.ensures c.requires.foldable c.as_slice-2.result.now c.in_ok-kept.kept.items c.in_ok-marks.marks.items c.in_ok-folded.folded
+    (c.as_slice-2.ensures.value ∙ c.in_ok-all.ensures) c.in_ok-marks.ensures left c.in_ok-folded.ensures
