@@ -3,6 +3,7 @@
 use crate::folds::folded_text;
 use gimple_core::{OutOfMemory, Text};
 use std::alloc::Global;
+use std::test::Fail as TestFail;
 
 /// The blocks of a function before and after it is folded.
 #[derive(Drop)]
@@ -28,4 +29,35 @@ pub fn folds_as(alloc: Global, head: &str, number: u32, row: &Row) -> Result<boo
         Some(text) => Ok(text.as_slice() == wanted.as_slice()),
         None => Ok(false),
     }
+}
+
+/// A row has the answer no where its function is not folded as it says, and where its text is no program.
+#[test]
+fn wrong_rows(rt: HostRuntime) -> Result<(), TestFail> {
+    let head = "gimple 1;\ni32 main () {\n  i32 x;\n";
+    let before = "  <bb 2>:\n    x = 4;\n    return x;\n";
+    let after = "  <bb 2>:\n    x = 4;\n    return 4;\n";
+    let right = Row {
+        name: "right",
+        before,
+        after,
+    };
+    assert!(rt; folds_as(rt.alloc(), head, 0, &right)?);
+    let wrong = [
+        Row {
+            name: "not folded",
+            before,
+            after: before,
+        },
+        Row {
+            name: "no program",
+            before: "",
+            after: "",
+        },
+    ];
+    for row in &wrong {
+        assert!(rt; !folds_as(rt.alloc(), head, 0, row)?, "{}", row.name);
+    }
+    assert!(rt; !folds_as(rt.alloc(), head, 1, &right)?);
+    Ok(())
 }

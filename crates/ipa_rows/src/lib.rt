@@ -17,3 +17,5 @@ mod text_faults;
 mod usage_rows;
 #[cfg(test)]
 mod whole_profile;
+#[cfg(test)]
+mod wrong_expectations;

@@ -1,10 +1,12 @@
 -- What the calls need and give, from the laws of the operators.
-use Rattle.std.proofs.Common.{◌≡◌, refl, subst, sym, false, inl, inr, Result, Ok, Err, IfOk}
+use Rattle.std.proofs.Common.{◌≡◌, ◌∙◌, ℤ, ap, refl, subst, sym, false, inl, inr, Result, Ok, Err, IfOk}
 use Rattle.gimple_ir.specs.declared.scalar.Scalar.{Scalar}
 use Rattle.gimple_ir.specs.declared.scalar.Op.{Op}
 use Rattle.gimple_ir.specs.declared.scalar.Op.TheVariants.{Add, Sub, Mul, Div, Rem, And, Or, Xor, Shl, Shr}
 use Rattle.gimple_ir.specs.declared.scalar.Cmp.{Cmp}
+use Rattle.gimple_ir.specs.declared.scalar.Cmp.TheVariants.{Ge, Le}
 use Rattle.gimple_ir.specs.declared.value.Constant.{Constant}
+use Rattle.gimple_ir.specs.declared.value.Constant.TheVariants.{Int}
 use Rattle.fix_engine.specs.Lattice.{AreAlike}
 use Rattle.value_domain.specs.declared.abs_val.AbsVal.{AbsVal}
 use Rattle.value_domain.specs.ConstantOperators.{is_pointer}
@@ -17,6 +19,7 @@ use Rattle.value_domain.proofs.TopLaws.{top_fits}
 use Rattle.value_domain.proofs.AbsLaws.{op_fits, cmp_fits, convert_fits}
 use Rattle.value_domain.proofs.RefineLaws.{refine_fits}
 use Rattle.value_domain.proofs.KindLaws.{kind_thresholds}
+use Rattle.value_rows.specs.Expected.{between_of}
 use Rattle.value_rows.specs.Kept.{IsKept}
 
 -- a result that is a kept value is kept
@@ -70,3 +73,12 @@ kept_fits scalar l law a k = subst (λ ts. FitsWith l.size ts a) (sym (kind_thre
 -- kept values have one kind
 pub kept_alike : (scalar : Scalar) (l : Limits) → IsLawful l.ends → (a b : AbsVal) → IsKept scalar l a → IsKept scalar l b → AreAlike FitsAbsVal a b
 kept_alike scalar l law a b k m = (kind_of l.size l.ends, kept_fits scalar l law a k, kept_fits scalar l law b m)
+
+refined_alike : (cmp : Cmp) (l : Limits) (a b x y : AbsVal) → a ≡ x → b ≡ y → refined_of cmp l.ends a b ≡ refined_of cmp l.ends x y
+refined_alike cmp l a b x y e f = ap (λ v. refined_of cmp l.ends v b) e ∙ ap (refined_of cmp l.ends x) f
+
+-- what two comparisons leave of all numbers of a scalar
+pub between_ok : {E : Type 0} (scalar : Scalar) (l : Limits) (low high : ℤ) (all least greatest from : AbsVal) (r : Result AbsVal E) → all ≡ top_of scalar → least ≡ exactly_of scalar l.size l.ends (Int low) → greatest ≡ exactly_of scalar l.size l.ends (Int high) → from ≡ refined_of Ge l.ends all least → IfOk r (λ v. v ≡ refined_of Le l.ends from greatest) → IfOk r (λ v. v ≡ between_of scalar l low high)
+between_ok scalar l low high all least greatest from (Ok v) e f g h m =
+    m ∙ refined_alike Le l from greatest _ _ (h ∙ refined_alike Ge l all least _ _ e f) g
+between_ok scalar l low high all least greatest from (Err u) e f g h m = tt

@@ -1,3 +1,4 @@
 pub mod Sample
 pub mod Kept
 pub mod Numbers
+pub mod Expected

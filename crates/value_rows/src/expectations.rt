@@ -1,5 +1,8 @@
 //! Whether a value is what is expected.
 
+ghost use Rattle.std.specs.Prelude.{◌↔◌, IsTrue};
+ghost use Rattle.value_rows.specs.Expected.{IsAnyWithin, IsListedAlone, IsNothing, IsWithin};
+
 use crate::sample::limits;
 use crate::values::{alone, is_below, joined, known_number, whole};
 use gimple_core::{Constant, Scalar};
@@ -7,22 +10,30 @@ use std::test::Fail;
 use value_domain::{AbsVal, Bits, Range, Vals};
 
 /// Whether a value has any constant and this interval.
-pub fn is_any_within(value: &AbsVal, range: Range) -> bool {
+pub fn is_any_within(value: &AbsVal, range: Range) -> bool
+    ensures { IsTrue result ↔ IsAnyWithin range value.now }
+{
     matches!(&value.vals, Vals::Any) && value.range == range
 }
 
 /// Whether a value holds nothing.
-pub fn is_nothing(value: &AbsVal) -> bool {
+pub fn is_nothing(value: &AbsVal) -> bool
+    ensures { IsTrue result ↔ IsNothing value.now }
+{
     matches!(&value.vals, Vals::Nothing) && value.range == Range { low: 1, high: 0 }
 }
 
 /// Whether a value has these known bits and this interval.
-pub fn is_within(value: &AbsVal, bits: Bits, range: Range) -> bool {
+pub fn is_within(value: &AbsVal, bits: Bits, range: Range) -> bool
+    ensures { IsTrue result ↔ IsWithin bits range value.now }
+{
     value.bits == bits && value.range == range
 }
 
 /// Whether the set of a value is this number alone.
-pub fn is_listed_alone(value: &AbsVal, want: i128) -> bool {
+pub fn is_listed_alone(value: &AbsVal, want: i128) -> bool
+    ensures { IsTrue result ↔ IsListedAlone want value.now.vals }
+{
     match &value.vals {
         Vals::Among {
             limit: _,

@@ -1,6 +1,7 @@
 //! A program and its thresholds.
 
 ghost use Rattle.std.specs.Prelude.{◌≡◌, IfOk};
+ghost use Rattle.value_domain.specs.Thresholds.{thresholds_list};
 ghost use Rattle.value_rows.specs.Sample.{sample};
 
 use gimple_core::{
@@ -37,7 +38,9 @@ fn program(alloc: Global) -> Result<Checked, OutOfMemory>
 }
 
 /// Options with lists of up to 8 constants.
-fn options() -> Params {
+fn options() -> Params
+    ensures { result.ipa_cp_value_list_size ≡ 8 }
+{
     Params {
         ipa_cp_value_list_size: 8,
         ipa_cp_eval_threshold: 0,
@@ -53,8 +56,12 @@ fn options() -> Params {
     }
 }
 
-/// The thresholds of the program: the powers of two with their neighbours, and 300.
-pub fn limits(alloc: Global) -> Result<Thresholds, OutOfMemory> {
+/// The thresholds of the program, which are the powers of two with their neighbours and 300, and lists of up to 8 constants.
+/// Err is want of memory.
+pub fn limits(alloc: Global) -> Result<Thresholds, OutOfMemory>
+    ensures size { IfOk result (λ t. t.size ≡ 8) }
+    ensures ends { IfOk result (λ t. t.ends ≡ thresholds_list sample) }
+{
     let program = program(alloc)?;
     thresholds_of(alloc, &program, &options())
 }

@@ -1,9 +1,10 @@
 //! Values that the operators take, and what the operators make of them.
 
 ghost use Rattle.std.specs.Prelude.{◌≡◌, false, IfOk};
-ghost use Rattle.value_domain.specs.AbsOperators.{abs_met, known_of, may_trap_of};
+ghost use Rattle.value_domain.specs.AbsOperators.{abs_cmp_of, abs_convert_of, abs_met, abs_op_of, exactly_of, known_of, may_trap_of, refined_of, top_of};
 ghost use Rattle.value_domain.specs.ConstantOperators.{is_pointer};
 ghost use Rattle.value_domain.specs.Values.{abs_val_below, abs_val_joined};
+ghost use Rattle.value_rows.specs.Expected.{between_of};
 ghost use Rattle.value_rows.specs.Kept.{IsKept};
 ghost use Rattle.value_rows.specs.Numbers.{number_in};
 
@@ -21,7 +22,8 @@ pub fn alone(
     value: i128,
     limits: &Thresholds,
 ) -> Result<AbsVal, OutOfMemory>
-    ensures { IfOk result (IsKept scalar limits.now) }
+    ensures kept { IfOk result (IsKept scalar limits.now) }
+    ensures value { IfOk result (λ v. v ≡ exactly_of scalar limits.now.size limits.now.ends (Constant.Int value)) }
 {
     limits.known();
     exactly(alloc, scalar, Constant::Int(value), limits)
@@ -29,7 +31,8 @@ pub fn alone(
 
 /// What holds every number of a scalar.
 pub fn whole(scalar: Scalar, limits: &Thresholds) -> AbsVal
-    ensures { IsKept scalar limits.now result }
+    ensures kept { IsKept scalar limits.now result }
+    ensures value { result ≡ top_of scalar }
 {
     limits.known();
     top(scalar)
@@ -46,7 +49,8 @@ pub fn left(
     requires number { is_pointer scalar ≡ false }
     requires side { IsKept scalar limits.now side.now }
     requires against { IsKept scalar limits.now against.now }
-    ensures { IfOk result (IsKept scalar limits.now) }
+    ensures kept { IfOk result (IsKept scalar limits.now) }
+    ensures value { IfOk result (λ v. v ≡ refined_of cmp limits.now.ends side.now against.now) }
 {
     limits.known();
     refine(cmp, scalar, side, against, limits)
@@ -60,7 +64,8 @@ pub fn between(
     limits: &Thresholds,
 ) -> Result<AbsVal, OutOfMemory>
     requires { is_pointer scalar ≡ false }
-    ensures { IfOk result (IsKept scalar limits.now) }
+    ensures kept { IfOk result (IsKept scalar limits.now) }
+    ensures value { IfOk result (λ v. v ≡ between_of scalar limits.now range.low range.high) }
 {
     let all = whole(scalar, limits);
     let least = alone(alloc, scalar, range.low, limits)?;
@@ -81,7 +86,8 @@ pub fn made(
     requires number { is_pointer scalar ≡ false }
     requires first { IsKept scalar limits.now first.now }
     requires second { IsKept scalar limits.now second.now }
-    ensures { IfOk result (IsKept scalar limits.now) }
+    ensures kept { IfOk result (IsKept scalar limits.now) }
+    ensures value { IfOk result (λ v. v ≡ abs_op_of op scalar scalar limits.now.size limits.now.ends first.now second.now) }
 {
     limits.known();
     abs_op(alloc, op, scalar, scalar, first, second, limits)
@@ -112,7 +118,8 @@ pub fn compared(
     requires number { is_pointer scalar ≡ false }
     requires first { IsKept scalar limits.now first.now }
     requires second { IsKept scalar limits.now second.now }
-    ensures { IfOk result (IsKept target limits.now) }
+    ensures kept { IfOk result (IsKept target limits.now) }
+    ensures value { IfOk result (λ v. v ≡ abs_cmp_of target cmp scalar limits.now.size first.now second.now) }
 {
     limits.known();
     abs_cmp(alloc, target, cmp, scalar, first, second, limits)
@@ -129,7 +136,8 @@ pub fn converted(
     requires target { is_pointer target ≡ false }
     requires source { is_pointer source ≡ false }
     requires value { IsKept source limits.now value.now }
-    ensures { IfOk result (IsKept target limits.now) }
+    ensures kept { IfOk result (IsKept target limits.now) }
+    ensures value { IfOk result (λ v. v ≡ abs_convert_of target source limits.now.size limits.now.ends value.now) }
 {
     limits.known();
     abs_convert(alloc, target, source, value, limits)

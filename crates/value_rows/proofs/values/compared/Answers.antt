@@ -12,8 +12,8 @@ abs_cmp-requires c = record {
   right_of = c.requires.second.of;
 }
 
-pub returns : goal.returns
-returns c =
+pub returns-clause-kept : goal.returns-clause-kept
+returns-clause-kept c =
     kept_ok c.args.target c.args.limits.now c.abs_cmp.result _
     (compared_kept c.args.limits.now c.known.ensures c.args.target c.args.cmp c.args.scalar c.args.first.now c.args.second.now c.requires.target)
     c.abs_cmp.ensures

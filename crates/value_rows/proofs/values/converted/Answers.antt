@@ -9,8 +9,8 @@ abs_convert-requires c = record {
   of = c.requires.value.of;
 }
 
-pub returns : goal.returns
-returns c =
+pub returns-clause-kept : goal.returns-clause-kept
+returns-clause-kept c =
     kept_ok c.args.target c.args.limits.now c.abs_convert.result _
     (converted_kept c.args.limits.now c.known.ensures c.args.target c.args.source c.args.value.now c.requires.target c.requires.source c.requires.value)
     c.abs_convert.ensures

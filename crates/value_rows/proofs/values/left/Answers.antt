@@ -11,8 +11,8 @@ refine-requires c = record {
   against_of = c.requires.against.of;
 }
 
-pub returns : goal.returns
-returns c =
+pub returns-clause-kept : goal.returns-clause-kept
+returns-clause-kept c =
     kept_ok c.args.scalar c.args.limits.now c.refine.result _
     (left_kept c.args.limits.now c.known.ensures c.args.cmp c.args.scalar c.args.side.now c.args.against.now c.requires.number c.requires.side c.requires.against)
     c.refine.ensures
