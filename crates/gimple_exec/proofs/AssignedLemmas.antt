@@ -17,12 +17,6 @@ update_first_at p f (x ∷ xs) zero d l h t = rw t refl
 update_first_at p f (x ∷ xs) (suc i) d l h t =
     rw (h zero d (omega arith)) (ap (λ ys. x ∷ ys) (update_first_at p f xs i d (omega arith) (none_tail p x xs i h) t))
 
-pub update_first_none : {X : Type 0} (p : X → Bool) (f : X → X) (xs : List X) → NoneBefore p xs (length xs) → update_first p f xs ≡ xs
-unfolding update_first
-update_first_none p f [] h = refl
-update_first_none p f (x ∷ xs) h =
-    rw (h zero x (omega arith)) (ap (λ ys. x ∷ ys) (update_first_none p f xs (none_tail p x xs (length xs) h)))
-
 get_or_any : {X : Type 0} (xs : List X) (i : ℕ) (d e : X) → i < length xs → get_or xs i d ≡ get_or xs i e
 get_or_any [] i d e l = absurd (omega arith)
 get_or_any (x ∷ xs) zero d e l = refl

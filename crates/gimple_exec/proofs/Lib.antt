@@ -5,6 +5,7 @@ pub mod Naming
 pub mod TableLemmas
 pub mod MadeLemmas
 pub mod PlaceLemmas
+pub mod CellLemmas
 pub mod StepLemmas
 pub mod MachineLemmas
 pub mod RunLemmas

@@ -1,9 +1,7 @@
--- Registers, slots and objects that are made one after another.
+-- Slots and objects that are made one after another.
 use Rattle.std.proofs.Common.{◌≡◌, ◌∙◌, ap, sym, refl, ℕ, zero, suc, false, map, ◌+◌, ◌<◌, ◌≤◌, List, [], ◌∷◌, ◌++◌, length, drop, get_or, slice_get, unwrap_or, append_assoc, append-nil, add-one, drop-cons}
 use Rattle.std.proofs.Math.ListN.{drop_of_length-le}
-use Rattle.gimple_ir.specs.declared.declarations.Register.{Register}
 use Rattle.gimple_ir.specs.declared.value.Value.{Value}
-use Rattle.gimple_core.specs.declared.machine.Cell.{Cell}
 use Rattle.gimple_core.specs.State.{zero_of}
 use Rattle.gimple_ir.specs.declared.value.Object.{Object}
 use Rattle.gimple_ir.specs.declared.value.Object.TheVariants.{Local, Global as GlobalObject}
@@ -16,17 +14,7 @@ use Rattle.gimple_core.specs.Memory.{Memory}
 use Rattle.gimple_core.specs.Layout.{layout_of}
 use Rattle.gimple_ir.specs.declared.value.Layout.{Layout}
 use Rattle.gimple_exec.specs.Tables.{layouts_of, with_layouts}
-use Rattle.gimple_core.specs.Run.{cells_made, filled, with_object, with_locals, with_globals, item_value}
-
-pub made_more : (cells : List Cell) (rs : List Register) (vs : List Value) (k : ℕ) (x : Register) → k < length rs → x ≡ get_or rs k x → (cells ++ record { name = x.name; scalar = x.scalar; value = unwrap_or (slice_get vs k) (zero_of x.scalar) } ∷ []) ++ cells_made (drop (k + 1) rs) vs (k + 1) ≡ cells ++ cells_made (drop k rs) vs k
-unfolding cells_made
-made_more cells rs vs k x l e =
-    let f : drop k rs ≡ x ∷ drop (suc k) rs = drop-cons rs k x l ∙ ap (λ (y : Register). y ∷ drop (suc k) rs) (sym e) in
-    rw (f, add-one, append_assoc) refl
-
-pub made_all : (cells : List Cell) (rs : List Register) (vs : List Value) (k : ℕ) → length rs ≤ k → cells ++ cells_made (drop k rs) vs k ≡ cells
-unfolding cells_made
-made_all cells rs vs k l = rw (drop_of_length-le rs l, append-nil) refl
+use Rattle.gimple_core.specs.Run.{filled, with_object, with_locals, with_globals, item_value}
 
 -- ---- the slots of an object, and the objects of a frame and of a program, one more at a time
 

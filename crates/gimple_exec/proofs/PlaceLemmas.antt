@@ -6,7 +6,7 @@ use Rattle.std.proofs.lemmas.List.{get_or_default}
 use Rattle.gimple_exec.specs.Places.{IsFirstAt}
 use Rattle.gimple_exec.proofs.AssignedLemmas.{NoneBefore, none_tail}
 
-find_at : {X : Type 0} (p : X → Bool) (xs : List X) (i : ℕ) (d : X) → i < length xs → NoneBefore p xs i → p (get_or xs i d) ≡ true → find p xs ≡ Some (get_or xs i d)
+pub find_at : {X : Type 0} (p : X → Bool) (xs : List X) (i : ℕ) (d : X) → i < length xs → NoneBefore p xs i → p (get_or xs i d) ≡ true → find p xs ≡ Some (get_or xs i d)
 find_at p [] i d l h t = absurd (omega arith)
 find_at p (x ∷ xs) zero d l h t = rw t refl
 find_at p (x ∷ xs) (suc i) d l h t = rw (h zero d (omega arith)) (find_at p xs i d (omega arith) (none_tail p x xs i h) t)

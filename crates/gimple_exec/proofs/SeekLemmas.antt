@@ -93,7 +93,7 @@ update_by p f x xs false e none more =
     let same : find p (x ∷ xs) ≡ find p xs = rw e refl in
     rw e (ap (λ ys. x ∷ ys) (more (sym same ∙ none)))
 
-update_none : {X : Type 0} (p : X → Bool) (f : X → X) (xs : List X) → find p xs ≡ None → update_first p f xs ≡ xs
+pub update_none : {X : Type 0} (p : X → Bool) (f : X → X) (xs : List X) → find p xs ≡ None → update_first p f xs ≡ xs
 unfolding update_first
 update_none p f [] none = refl
 update_none p f (x ∷ xs) none = update_by p f x xs (p x) refl none (update_none p f xs)

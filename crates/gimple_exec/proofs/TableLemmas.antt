@@ -3,20 +3,25 @@ use Rattle.std.proofs.Common.{◌≡◌, ◌∙◌, ap, refl, ℕ, ◌<◌, ◌=
 use Rattle.std.specs.List.{position}
 use Rattle.std.proofs.lemmas.List.{get_or-map}
 use Rattle.gimple_core.specs.Names.{same_name}
-use Rattle.gimple_ir.specs.declared.value.Layout.{Layout}
 use Rattle.gimple_ir.specs.declared.block.Block.{Block}
 use Rattle.gimple_ir.specs.declared.program.Function.{Function}
 use Rattle.gimple_ir.specs.declared.program.Program.{Program}
 use Rattle.gimple_exec.specs.Machines.{function_of, no_function}
-use Rattle.gimple_exec.specs.Tables.{names_of, labels_of, labels_in, layouts_of, layouts_in}
+use Rattle.gimple_exec.specs.declared.function_tables.FunctionTables.{FunctionTables}
+use Rattle.gimple_exec.specs.Tables.{names_of, labels_of, tables_of, tables_in}
 use Rattle.gimple_exec.specs.Places.{IsPlace}
 use Rattle.name_tables.proofs.Naming.{position_map}
 use Rattle.gimple_exec.proofs.Naming.{place_by}
 
--- the place of a label in a function's row
-pub label_in : (p : Program) (rows : List (List ℕ)) (k label : ℕ) (row : List ℕ) (r : Option ℕ) → rows ≡ labels_in p.functions → k < length p.functions → row ≡ get_or rows k row → r ≡ position (λ l. l == label) row → IsPlace (λ b. b.label == label) (function_of p k).blocks r
+-- a function's tables
+pub tables_at : (p : Program) (rows : List FunctionTables) (k : ℕ) (row : FunctionTables) → rows ≡ tables_in p.structs p.functions → k < length p.functions → row ≡ get_or rows k row → row ≡ tables_of p.structs (function_of p k)
+tables_at p rows k row e within read =
+    read ∙ ap (λ (rs : List FunctionTables). get_or rs k row) e ∙ get_or-map (λ (f : Function). tables_of p.structs f) p.functions k no_function row within
+
+-- the place of a label among a function's blocks
+pub label_in : (p : Program) (rows : List FunctionTables) (k label : ℕ) (row : FunctionTables) (r : Option ℕ) → rows ≡ tables_in p.structs p.functions → k < length p.functions → row ≡ get_or rows k row → r ≡ position (λ l. l == label) row.labels → IsPlace (λ b. b.label == label) (function_of p k).blocks r
 label_in p rows k label row r e within read found =
-    let here : row ≡ labels_of (function_of p k).blocks = read ∙ ap (λ (rs : List (List ℕ)). get_or rs k row) e ∙ get_or-map (λ (f : Function). labels_of f.blocks) p.functions k no_function row within in
+    let here : row.labels ≡ labels_of (function_of p k).blocks = ap (λ (t : FunctionTables). t.labels) (tables_at p rows k row e within read) in
     place_by (λ (b : Block). b.label == label) (function_of p k).blocks r
     (found ∙ ap (λ (ls : List ℕ). position (λ l. l == label) ls) here ∙ position_map (λ (b : Block). b.label) (λ l. l == label) (λ b. b.label == label) (λ b. refl) (function_of p k).blocks)
 
@@ -25,8 +30,3 @@ pub name_in : (p : Program) (names : List (List ℕ)) (name bytes : List ℕ) (r
 name_in p names name bytes r e same found =
     place_by (λ (f : Function). same_name f.name name) p.functions r
     (found ∙ ap (λ (b : List ℕ). position (λ n. same_name n b) names) same ∙ ap (λ (ns : List (List ℕ)). position (λ n. same_name n name) ns) e ∙ position_map (λ (f : Function). f.name) (λ n. same_name n name) (λ f. same_name f.name name) (λ f. refl) p.functions)
-
--- a function's row of layouts
-pub layouts_at : (p : Program) (rows : List (List Layout)) (k : ℕ) (row : List Layout) → rows ≡ layouts_in p.structs p.functions → k < length p.functions → row ≡ get_or rows k row → row ≡ layouts_of p.structs (function_of p k).locals
-layouts_at p rows k row e within read =
-    read ∙ ap (λ (rs : List (List Layout)). get_or rs k row) e ∙ get_or-map (λ (f : Function). layouts_of p.structs f.locals) p.functions k no_function row within

@@ -1,6 +1,7 @@
 -- What is found in a program again and again.
 use Rattle.std.specs.Prelude.{◌≡◌, ℕ, ◌+◌, false, List, [], ◌∷◌, map}
 use Rattle.gimple_ir.specs.declared.declarations.Decl.{Decl}
+use Rattle.gimple_ir.specs.declared.declarations.Global.{Global}
 use Rattle.gimple_ir.specs.declared.declarations.StructDef.{StructDef}
 use Rattle.gimple_ir.specs.declared.value.Layout.{Layout}
 use Rattle.gimple_ir.specs.declared.value.Object.TheVariants.{Local}
@@ -10,6 +11,8 @@ use Rattle.gimple_ir.specs.declared.program.Program.{Program}
 use Rattle.gimple_core.specs.Layout.{layout_of}
 use Rattle.gimple_core.specs.Memory.{Memory}
 use Rattle.gimple_core.specs.Run.{with_object}
+use Rattle.gimple_exec.specs.declared.function_tables.FunctionTables.{FunctionTables}
+use Rattle.gimple_exec.specs.Frames.{declared_by}
 
 abbrev pub names_of : List Function → List (List ℕ)
 names_of fs = map (λ f. f.name) fs
@@ -17,20 +20,26 @@ names_of fs = map (λ f. f.name) fs
 abbrev pub labels_of : List Block → List ℕ
 labels_of bs = map (λ b. b.label) bs
 
-abbrev pub labels_in : List Function → List (List ℕ)
-labels_in fs = map (λ f. labels_of f.blocks) fs
-
 abbrev pub layouts_of : List StructDef → List Decl → List Layout
 layouts_of structs ds = map (layout_of structs) ds
 
-abbrev pub layouts_in : List StructDef → List Function → List (List Layout)
-layouts_in structs fs = map (λ f. layouts_of structs f.locals) fs
+-- what is found in a function
+abbrev pub tables_of : List StructDef → Function → FunctionTables
+tables_of structs f = record {
+  labels = labels_of f.blocks;
+  layouts = layouts_of structs f.locals;
+  registers = declared_by f;
+  locals = f.locals;
+}
+
+abbrev pub tables_in : List StructDef → List Function → List FunctionTables
+tables_in structs fs = map (tables_of structs) fs
 
 -- the tables are those of the program
-pub record IsIndexed (p : Program) (names : List (List ℕ)) (rows : List (List ℕ)) (sizes : List (List Layout)) : Type 0 where
+pub record IsIndexed (p : Program) (names : List (List ℕ)) (variables : List Global) (rows : List FunctionTables) : Type 0 where
   pub functions : names ≡ names_of p.functions
-  pub labels : rows ≡ labels_in p.functions
-  pub layouts : sizes ≡ layouts_in p.structs p.functions
+  pub globals : variables ≡ p.globals
+  pub tables : rows ≡ tables_in p.structs p.functions
 
 -- the memory with a frame's locals of these layouts, from a number on
 unfoldable pub with_layouts : ℕ → ℕ → List Layout → Memory → Memory

@@ -1,70 +1,80 @@
 //! The registers of a frame.
 
-ghost use Rattle.std.specs.Prelude.{◌≡◌, [], ◌∷◌, ◌++◌, OnOk, OnErr, find};
-ghost use Rattle.std.specs.Option.{option_copied};
+ghost use Rattle.std.specs.Prelude.{◌≡◌, ◌<◌, length, slice_index_or};
+ghost use Rattle.gimple_ir.specs.declared.declarations.Register.{Register};
 ghost use Rattle.gimple_core.specs.Names.{same_name};
-ghost use Rattle.gimple_core.specs.State.{value_in, scalar_in, assigned, cell_value, cell_scalar};
+ghost use Rattle.gimple_core.specs.State.{value_in, scalar_in, assigned};
+ghost use Rattle.gimple_exec.specs.Frames.{cells_of};
+ghost use Rattle.gimple_exec.specs.Places.{IsPlace};
 
-use gimple_core::{Cell, OutOfMemory, Scalar, Text, Value, same_name};
-use std::alloc::Global as Heap;
+use gimple_core::{Scalar, Text, Value};
+use name_tables::RegisterTable;
 use std::marker::Model;
 
-/// The registers of a frame.
+/// The registers of a frame: a table of those that the function declares, and the value of each in turn.
 #[derive(Drop)]
-pub struct Cells {
-    cells: Vec<Cell>,
+pub struct Cells<'a> {
+    registers: &'a RegisterTable,
+    values: Vec<Value>,
 }
 
-impl Model for Cells {
-    ghost use Rattle.std.specs.Prelude.{List};
+impl<'a> Model for Cells<'a> {
+    ghost use Rattle.std.specs.Prelude.{◌≡◌, List, length};
     ghost use Rattle.gimple_core.specs.declared.machine.Cell.{Cell};
+    ghost use Rattle.gimple_exec.specs.Frames.{cells_of};
 
     ghost Value = { List Cell };
 
-    ghost view = { λ c. c.cells.items };
+    ghost view = { λ c. cells_of c.registers.now c.values.items };
+
+    ghost invariant = { λ c. length c.values.items ≡ length c.registers.now };
 }
 
-impl Cells {
-    pub fn new(alloc: Heap) -> Cells
-        ensures { result ≡ [] }
-    {
-        Cells {
-            cells: Vec::new(alloc),
-        }
+/// The place of the first register of a name.
+fn place(registers: &RegisterTable, name: &Text) -> Option<usize>
+    ensures { IsPlace (λ r. same_name r.name name.now) registers.now result }
+{
+    let at = registers.place(name);
+    if at < registers.as_slice().len() {
+        Some(at)
+    } else {
+        None
     }
+}
 
-    pub fn push(&mut self, cell: Cell) -> Result<(), OutOfMemory>
-        ensures ok { OnOk result (self.new ≡ self.old ++ cell ∷ []) }
-        ensures err { OnErr result (self.new ≡ self.old) }
-    {
-        self.cells.push(cell)?;
-        Ok(())
-    }
+/// The scalar of the register at a place.
+fn scalar_at(registers: &RegisterTable, at: usize) -> Scalar
+    requires { at < length registers.now }
+    ensures { (r : Register) → result ≡ (slice_index_or registers.now at r).scalar }
+{
+    registers.as_slice()[at].scalar
+}
 
-    fn named(&self, name: &Text) -> Option<&Cell>
-        ensures { option_copied result ≡ find (λ c. same_name c.name name.now) self.now }
+impl<'a> Cells<'a> {
+    /// Registers that hold these values.
+    pub fn new(registers: &'a RegisterTable, values: Vec<Value>) -> Cells<'a>
+        requires { length values.items ≡ length registers.now }
+        ensures { result ≡ cells_of registers.now values.items }
     {
-        self.cells.iter().find(|c| same_name(&c.name, name))
+        Cells { registers, values }
     }
 
     /// What a register holds.
-    #[tactic(auto, unfolding(gimple_core::specs::State::value_in))]
     pub fn value(&self, name: &Text) -> Value
         ensures { result ≡ value_in self.now name.now }
     {
-        match self.named(name) {
-            Some(cell) => cell.value,
+        match place(self.registers, name) {
+            Some(at) => self.values[at],
             None => Value::Null,
         }
     }
 
     /// The scalar of a register.
-    #[tactic(auto, unfolding(gimple_core::specs::State::scalar_in))]
     pub fn scalar(&self, name: &Text) -> Scalar
         ensures { result ≡ scalar_in self.now name.now }
     {
-        match self.named(name) {
-            Some(cell) => cell.scalar,
+        match place(self.registers, name) {
+            Some(at) => scalar_at(self.registers, at),
             None => Scalar::Ptr,
         }
     }
@@ -73,17 +83,8 @@ impl Cells {
     pub fn assign(&mut self, name: &Text, value: Value)
         ensures { self.new ≡ assigned self.old name.now value }
     {
-        assign_in(&mut self.cells, name, value);
-    }
-}
-
-fn assign_in(cells: &mut [Cell], name: &Text, value: Value)
-    ensures { cells.new ≡ assigned cells.old name.now value }
-{
-    for cell in cells.iter_mut() {
-        if same_name(&cell.name, name) {
-            cell.value = value;
-            return;
+        if let Some(at) = place(self.registers, name) {
+            self.values[at] = value;
         }
     }
 }

@@ -1,62 +1,66 @@
 //! The arguments and registers of a call that begins.
 
-ghost use Rattle.std.specs.Prelude.{◌≡◌, ◌<◌, ◌^◌, ◌++◌, [], length, IfOk, OnOk};
+ghost use Rattle.std.specs.Prelude.{◌≡◌, ◌<◌, ◌++◌, [], length, IfOk, OnOk};
 ghost use Rattle.gimple_core.specs.Run.{cells_made, values_of};
+ghost use Rattle.gimple_exec.specs.Frames.{values_made, locals_in, IsNarrow};
+ghost use Rattle.gimple_exec.specs.Machines.{function_of};
 
 use crate::cells::Cells;
+use crate::indexed::Indexed;
 use crate::memory::value_at;
+use crate::scope::Scope;
 use crate::values;
-use gimple_core::{Cell, Decl, Exact, Function, Operand, OutOfMemory, Register, Value};
+use gimple_core::{Function, Operand, OutOfMemory, Register, Value};
 use std::alloc::Global as Heap;
 
 /// The values of a call's arguments.
 pub fn arguments(
     alloc: Heap,
-    globals: &[gimple_core::Global],
-    locals: &[Decl],
-    serial: u64,
-    cells: &Cells,
+    scope: &Scope<'_>,
+    cells: &Cells<'_>,
     operands: &[Operand],
 ) -> Result<Vec<Value>, OutOfMemory>
-    requires globals { length globals.now < 2 ^ 32 }
-    requires locals { length locals.now < 2 ^ 32 }
-    ensures { IfOk result (λ vs. vs.items ≡ values_of globals.now (record { locals = locals.now; serial = serial }) cells.now operands.now) }
+    requires { IsNarrow scope.now }
+    ensures { IfOk result (λ vs. vs.items ≡ values_of scope.now.globals.now (locals_in scope.now) cells.now operands.now) }
 {
     operands
         .iter()
-        .map(|o| values::operand(globals, locals, serial, cells, o))
+        .map(|o| values::operand(scope, cells, o))
         .collect(alloc)
 }
 
-/// Adds registers, the first ones with these values.
-fn add(
-    alloc: Heap,
-    cells: &mut Cells,
-    registers: &[Register],
-    values: &[Value],
-) -> Result<(), OutOfMemory>
-    ensures { OnOk result (cells.new ≡ cells.old ++ cells_made registers.now values.now 0) }
+/// Adds what registers hold at first, the first ones these values.
+fn add(held: &mut Vec<Value>, registers: &[Register], values: &[Value]) -> Result<(), OutOfMemory>
+    ensures { OnOk result (held.new.items ≡ held.old.items ++ values_made registers.now values.now 0) }
 {
     for k in 0..registers.len() {
         let register = &registers[k];
         let value = value_at(values, k, register.scalar);
-        let name = register.name.copy()?;
-        let scalar = register.scalar;
-        cells.push(Cell {
-            name,
-            scalar,
-            value,
-        })?;
+        held.push(value)?;
     }
     Ok(())
 }
 
-/// The registers of a call that begins.
-pub fn registers(alloc: Heap, function: &Function, values: &[Value]) -> Result<Cells, OutOfMemory>
-    ensures { IfOk result (λ cells. cells ≡ cells_made function.now.params values.now 0 ++ cells_made function.now.registers [] 0) }
+/// What a function's registers hold at first, its formals these values.
+fn held(alloc: Heap, function: &Function, values: &[Value]) -> Result<Vec<Value>, OutOfMemory>
+    ensures { IfOk result (λ vs. vs.items ≡ values_made function.now.params values.now 0 ++ values_made function.now.registers [] 0) }
 {
-    let mut cells = Cells::new(alloc);
-    add(alloc, &mut cells, function.params.as_slice(), values)?;
-    add(alloc, &mut cells, function.registers.as_slice(), &[])?;
-    Ok(cells)
+    let mut held = Vec::new(alloc);
+    add(&mut held, function.params.as_slice(), values)?;
+    add(&mut held, function.registers.as_slice(), &[])?;
+    Ok(held)
+}
+
+/// The registers of a call that begins.
+pub fn registers<'t>(
+    alloc: Heap,
+    program: &'t Indexed<'_>,
+    function: usize,
+    values: &[Value],
+) -> Result<Cells<'t>, OutOfMemory>
+    requires { function < length program.now.functions }
+    ensures { IfOk result (λ cells. cells ≡ cells_made (function_of program.now function).params values.now 0 ++ cells_made (function_of program.now function).registers [] 0) }
+{
+    let held = held(alloc, program.function_at(function), values)?;
+    Ok(Cells::new(program.registers(function), held))
 }

@@ -1,25 +1,26 @@
 //! A program with what is found in it again and again.
 
-ghost use Rattle.std.specs.Prelude.{◌≡◌, ◌<◌, ◌++◌, ◌∷◌, ◌==◌, [], ◌↔◌, IfOk, IsTrue, length, map};
-ghost use Rattle.std.specs.List.{All};
+ghost use Rattle.std.specs.Prelude.{◌≡◌, ◌<◌, ◌==◌, [], ◌↔◌, IfOk, IsTrue, length};
 ghost use Rattle.gimple_core.specs.Names.{same_name};
-ghost use Rattle.gimple_core.specs.Layout.{layout_of, HasLayout};
 ghost use Rattle.gimple_exec.specs.Places.{IsPlace};
+ghost use Rattle.gimple_exec.specs.Frames.{declared_by};
 ghost use Rattle.gimple_exec.specs.Machines.{function_of, block_of, IsLimited};
-ghost use Rattle.gimple_exec.specs.Tables.{names_of, labels_of, labels_in, layouts_of, layouts_in};
+ghost use Rattle.gimple_exec.specs.Tables.{names_of, layouts_of, tables_in};
 
-use gimple_core::{Block, Decl, Function, Layout, Listed, OutOfMemory, Program, Text, layout_of};
-use name_tables::{Labels, Names};
+use crate::function_tables::FunctionTables;
+use crate::scope::Scope;
+use gimple_core::{Block, Function, Layout, OutOfMemory, Program, Text};
+use name_tables::{NamedGlobals, Names, RegisterTable};
 use std::alloc::Global as Heap;
 use std::marker::Model;
 
-/// A program with the places of its functions' names and of its blocks' labels, and the layouts of its locals.
+/// A program with the places of its functions and globals by their names, and the tables of each function.
 #[derive(Drop)]
 pub struct Indexed<'a> {
     program: &'a Program,
     functions: Names<'a>,
-    labels: Vec<Labels>,
-    layouts: Vec<Listed<Layout>>,
+    globals: NamedGlobals<'a>,
+    tables: Vec<FunctionTables<'a>>,
 }
 
 impl<'a> Model for Indexed<'a> {
@@ -30,7 +31,7 @@ impl<'a> Model for Indexed<'a> {
 
     ghost view = { λ x. x.program.now };
 
-    ghost invariant = { λ x. IsIndexed x.program.now x.functions x.labels.items x.layouts.items };
+    ghost invariant = { λ x. IsIndexed x.program.now x.functions x.globals x.tables.items };
 }
 
 fn function_names<'a>(alloc: Heap, functions: &'a [Function]) -> Result<Names<'a>, OutOfMemory>
@@ -43,50 +44,17 @@ fn function_names<'a>(alloc: Heap, functions: &'a [Function]) -> Result<Names<'a
     Ok(names)
 }
 
-fn block_labels(alloc: Heap, blocks: &[Block]) -> Result<Labels, OutOfMemory>
-    ensures { IfOk result (λ labels. labels ≡ labels_of blocks.now) }
-{
-    let mut labels = Labels::new(alloc);
-    for block in blocks {
-        labels.push(block.label)?;
-    }
-    Ok(labels)
-}
-
-fn program_labels(alloc: Heap, functions: &[Function]) -> Result<Vec<Labels>, OutOfMemory>
-    ensures { IfOk result (λ rows. rows.items ≡ labels_in functions.now) }
-{
-    let mut rows = Vec::new(alloc);
-    for function in functions {
-        rows.push(block_labels(alloc, function.blocks.as_slice())?)?;
-    }
-    Ok(rows)
-}
-
-/// The layouts of locals.
-pub fn local_layouts(
+fn program_tables<'a>(
     alloc: Heap,
-    program: &Program,
-    locals: &[Decl],
-) -> Result<Listed<Layout>, OutOfMemory>
-    requires { All (λ d. HasLayout program.now.structs d) locals.now }
-    ensures { IfOk result (λ layouts. layouts ≡ layouts_of program.now.structs locals.now) }
-{
-    let mut layouts = Listed::new(alloc);
-    for local in locals {
-        layouts.push(layout_of(alloc, program, local)?)?;
-    }
-    Ok(layouts)
-}
-
-fn program_layouts(alloc: Heap, program: &Program) -> Result<Vec<Listed<Layout>>, OutOfMemory>
+    program: &'a Program,
+) -> Result<Vec<FunctionTables<'a>>, OutOfMemory>
     requires { IsLimited program.now }
-    ensures { IfOk result (λ rows. rows.items ≡ layouts_in program.now.structs program.now.functions) }
+    ensures { IfOk result (λ rows. rows.items ≡ tables_in program.now.structs program.now.functions) }
 {
     let functions = program.functions.as_slice();
     let mut rows = Vec::new(alloc);
     for k in 0..functions.len() {
-        rows.push(local_layouts(alloc, program, functions[k].locals.as_slice())?)?;
+        rows.push(FunctionTables::new(alloc, program, &functions[k])?)?;
     }
     Ok(rows)
 }
@@ -98,14 +66,21 @@ impl<'a> Indexed<'a> {
         ensures { IfOk result (λ x. x ≡ program.now) }
     {
         let functions = function_names(alloc, program.functions.as_slice())?;
-        let labels = program_labels(alloc, program.functions.as_slice())?;
-        let layouts = program_layouts(alloc, program)?;
+        let globals = NamedGlobals::new(alloc, program.globals.as_slice())?;
+        let tables = program_tables(alloc, program)?;
         Ok(Indexed {
             program,
             functions,
-            labels,
-            layouts,
+            globals,
+            tables,
         })
+    }
+
+    /// The program itself.
+    pub fn source(&self) -> &'a Program
+        ensures { result.now ≡ self.now }
+    {
+        self.program
     }
 
     /// A function of the program.
@@ -134,14 +109,14 @@ impl<'a> Indexed<'a> {
     }
 
     /// The globals of the program.
-    pub fn globals(&self) -> &'a [gimple_core::Global]
+    pub fn globals(&self) -> &NamedGlobals<'a>
         ensures { result.now ≡ self.now.globals }
     {
-        self.program.globals.as_slice()
+        &self.globals
     }
 
     /// The first function of a name.
-    pub fn named_place(&self, name: &'a Text) -> Option<usize>
+    pub fn named_place(&self, name: &Text) -> Option<usize>
         ensures { IsPlace (λ f. same_name f.name name.now) self.now.functions result }
     {
         self.functions.place(name.as_slice())
@@ -152,7 +127,7 @@ impl<'a> Indexed<'a> {
         requires { function < length self.now.functions }
         ensures { IsPlace (λ b. b.label == label) (function_of self.now function).blocks result }
     {
-        self.labels[function].place(label)
+        self.tables[function].labels.place(label)
     }
 
     /// The layouts of a function's locals.
@@ -160,6 +135,28 @@ impl<'a> Indexed<'a> {
         requires { function < length self.now.functions }
         ensures { result.now ≡ layouts_of self.now.structs (function_of self.now function).locals }
     {
-        self.layouts[function].as_slice()
+        self.tables[function].layouts.as_slice()
+    }
+
+    /// The registers of a function, formals first.
+    pub fn registers(&self, function: usize) -> &RegisterTable
+        requires { function < length self.now.functions }
+        ensures { result.now ≡ declared_by (function_of self.now function) }
+    {
+        &self.tables[function].registers
+    }
+
+    /// The variables that a frame of a function sees.
+    pub fn scope(&self, function: usize, serial: u64) -> Scope<'_>
+        requires { function < length self.now.functions }
+        ensures globals { result.globals.now ≡ self.now.globals }
+        ensures locals { result.locals.now ≡ (function_of self.now function).locals }
+        ensures serial { result.serial ≡ serial }
+    {
+        Scope {
+            globals: &self.globals,
+            locals: &self.tables[function].locals,
+            serial,
+        }
     }
 }

@@ -7,28 +7,27 @@ ghost use Rattle.gimple_exec.specs.Machines.{state_of, IsSound, IsLimited, IsFir
 
 use crate::entry;
 use crate::indexed::Indexed;
-use crate::machine::{Machine, Reach, Stand, function_at, is_bodiless, named_place};
+use crate::machine::{Machine, Reach, Stand};
 use crate::memory::Memory;
 use crate::world::World;
-use gimple_core::{Checked, Listed, OutOfMemory, Outcome, Program, Text, TrapKind};
+use gimple_core::{Checked, Listed, OutOfMemory, Outcome, Text, TrapKind};
 use std::alloc::Global as Heap;
 
 /// The machine in which the first frame of a function begins.
-fn first_machine(
+fn first_machine<'t>(
     alloc: Heap,
-    program: &Program,
+    program: &'t Indexed<'_>,
     k: usize,
     input: &[i64],
-) -> Result<Machine, OutOfMemory>
+) -> Result<Machine<'t>, OutOfMemory>
     requires limits { IsLimited program.now }
     requires within { k < length program.now.functions }
     ensures { IfOk result (λ m. IsFirst program.now k input.now m) }
 {
-    let function = function_at(program, k);
     let mut memory = Memory::new(alloc);
-    memory.add_globals(alloc, program, program.globals.as_slice())?;
-    memory.add_locals(alloc, program, function.locals.as_slice(), 0)?;
-    let cells = entry::registers(alloc, function, &[])?;
+    memory.add_program(alloc, program)?;
+    memory.add_frame(program, k, 0)?;
+    let cells = entry::registers(alloc, program, k, &[])?;
     let input = Listed::from_vec(Vec::from_slice(alloc, input)?);
     Ok(Machine {
         top: Stand {
@@ -51,15 +50,19 @@ fn first_machine(
 }
 
 /// The machine in which `main` begins.
-fn start(alloc: Heap, program: &Program, input: &[i64]) -> Result<Option<Machine>, OutOfMemory>
+fn start<'t>(
+    alloc: Heap,
+    program: &'t Indexed<'_>,
+    input: &[i64],
+) -> Result<Option<Machine<'t>>, OutOfMemory>
     requires { IsLimited program.now }
     ensures { IfOk result (λ o. Starts program.now input.now o) }
 {
     let name = Text::from_bytes(alloc, b"main")?;
-    let Some(k) = named_place(program, &name) else {
+    let Some(k) = program.named_place(&name) else {
         return Ok(None);
     };
-    if is_bodiless(program, k) {
+    if program.is_bodiless(k) {
         return Ok(None);
     }
     let machine = first_machine(alloc, program, k, input)?;
@@ -67,16 +70,16 @@ fn start(alloc: Heap, program: &Program, input: &[i64]) -> Result<Option<Machine
 }
 
 /// The run from a machine's state with some transfers, and then up to the one that is too many.
-fn take_turns(
-    mut machine: Machine,
+fn take_turns<'t>(
+    mut machine: Machine<'t>,
     alloc: Heap,
-    program: &Indexed<'_>,
+    program: &'t Indexed<'_>,
     turns: u64,
 ) -> Result<Outcome, OutOfMemory>
     requires sound { IsSound program.now machine }
     requires limits { IsLimited program.now }
     requires serials { machine.next + turns ≤ 2 ^ 64 }
-    ensures { IfOk result (λ o. o ≡ runs program.now turns (state_of program.now machine)) }
+    ensures { IfOk result (λ o. o ≡ runs program.now turns (state_of program.now machine.entry)) }
 {
     for _turn in 0..turns {
         match machine.walk(alloc, program)? {
@@ -94,20 +97,20 @@ fn take_turns(
     }
 }
 
-/// The run from a machine's state.
-fn go_on(
-    machine: Machine,
+/// What a program comes to.
+fn run_indexed(
     alloc: Heap,
-    program: &Program,
+    program: &Indexed<'_>,
+    input: &[i64],
     turns: u64,
 ) -> Result<Outcome, OutOfMemory>
-    requires sound { IsSound program.now machine }
-    requires limits { IsLimited program.now }
-    requires serials { machine.next + turns ≤ 2 ^ 64 }
-    ensures { IfOk result (λ o. o ≡ runs program.now turns (state_of program.now machine)) }
+    requires { IsLimited program.now }
+    ensures { IfOk result (λ o. o ≡ Run program.now input.now turns) }
 {
-    let indexed = Indexed::new(alloc, program)?;
-    take_turns(machine, alloc, &indexed, turns)
+    match start(alloc, program, input)? {
+        Some(machine) => take_turns(machine, alloc, program, turns),
+        None => Ok(Outcome::Trapped(Text::new(alloc), TrapKind::Abort)),
+    }
 }
 
 /// What a checked program has come to on these input numbers after at most `turns` transfers: taken jumps, call entries and
@@ -123,8 +126,6 @@ pub fn run(
     ensures { IfOk result (λ o. o ≡ Run program.now.program input.now turns) }
 {
     let program = program.program();
-    match start(alloc, program, input)? {
-        Some(machine) => go_on(machine, alloc, program, turns),
-        None => Ok(Outcome::Trapped(Text::new(alloc), TrapKind::Abort)),
-    }
+    let indexed = Indexed::new(alloc, program)?;
+    run_indexed(alloc, &indexed, input, turns)
 }

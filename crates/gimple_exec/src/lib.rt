@@ -4,12 +4,14 @@
 mod cells;
 mod entry;
 mod extents;
+mod function_tables;
 mod indexed;
 mod interpreter;
 mod machine;
 mod memory;
 mod order;
 mod rows;
+mod scope;
 mod slots;
 mod values;
 mod world;

@@ -1,20 +1,18 @@
 //! The machine of a run, and its steps.
 
-ghost use Rattle.std.specs.Prelude.{◌≡◌, ◌<◌, ◌≤◌, ◌^◌, ℕ, ◌==◌, length, [], ◌++◌, ◌↔◌, IsTrue, IfOk, OnOk, find};
+ghost use Rattle.std.specs.Prelude.{◌≡◌, ◌<◌, ◌^◌, length, [], ◌++◌, IfOk, OnOk, find};
 ghost use Rattle.std.specs.Option.{option_copied};
-ghost use Rattle.gimple_core.specs.Names.{same_name};
 ghost use Rattle.gimple_core.specs.Operators.{cmp_of};
 ghost use Rattle.gimple_core.specs.Run.{status_of, given, case_for};
-ghost use Rattle.gimple_exec.specs.Places.{IsPlace};
-ghost use Rattle.gimple_exec.specs.Machines.{function_of, block_of};
+ghost use Rattle.gimple_exec.specs.Machines.{function_of};
 
 use crate::cells::Cells;
 use crate::indexed::Indexed;
 use crate::world::World;
 use crate::{entry, values};
 use gimple_core::{
-    Block, Case, Cases, Cmp, End, Exact, Function, Operand, OutOfMemory, Program, Scalar, Stmt,
-    Text, TrapKind, Value, eval_cmp, same_name,
+    Case, Cases, Cmp, End, Exact, Operand, OutOfMemory, Scalar, Stmt, Text, TrapKind, Value,
+    eval_cmp,
 };
 use std::alloc::Global as Heap;
 use std::mem;
@@ -31,17 +29,17 @@ pub struct Stand {
 
 /// A call that waits for another one.
 #[derive(Drop)]
-pub struct Waiting {
+pub struct Waiting<'t> {
     pub stand: Stand,
-    pub cells: Cells,
+    pub cells: Cells<'t>,
 }
 
 /// The state of a run. The next serial may be 2^64, which no frame has.
 #[derive(Drop)]
-pub struct Machine {
+pub struct Machine<'t> {
     pub top: Stand,
-    pub below: Vec<Waiting>,
-    pub world: World,
+    pub below: Vec<Waiting<'t>>,
+    pub world: World<'t>,
     pub next: u128,
 }
 
@@ -62,42 +60,7 @@ pub enum Step {
     Reaches(Reach),
 }
 
-/// A function of a program.
-pub fn function_at(program: &Program, k: usize) -> &Function
-    requires { k < length program.now.functions }
-    ensures { result.now ≡ function_of program.now k }
-{
-    &program.functions.as_slice()[k]
-}
-
-/// The first function of a name.
-fn function_place(functions: &[Function], name: &Text) -> Option<usize>
-    ensures { IsPlace (λ f. same_name f.name name.now) functions.now result }
-{
-    for k in 0..functions.len() {
-        if same_name(&functions[k].name, name) {
-            return Some(k);
-        }
-    }
-    None
-}
-
-/// The function of a name in a program.
-pub fn named_place(program: &Program, name: &Text) -> Option<usize>
-    ensures { IsPlace (λ f. same_name f.name name.now) program.now.functions result }
-{
-    function_place(program.functions.as_slice(), name)
-}
-
-/// Whether a function has no blocks.
-pub fn is_bodiless(program: &Program, k: usize) -> bool
-    requires { k < length program.now.functions }
-    ensures { IsTrue result ↔ ((function_of program.now k).blocks ≡ []) }
-{
-    function_at(program, k).blocks.is_empty()
-}
-
-impl Machine {
+impl<'t> Machine<'t> {
     ghost use Rattle.gimple_core.specs.Run.{jump, returned, call, cells_made, values_of, value_of, any_number, finish, perform, step, with_locals, walk};
     ghost use Rattle.gimple_core.specs.State.{scope_of};
     ghost use Rattle.gimple_exec.specs.Machines.{state_of, control_of, IsSound, IsLimited, Leads, Arrives, Begins};
@@ -134,12 +97,12 @@ impl Machine {
     }
 
     /// A call.
-    fn enter<'a>(
+    fn enter(
         &mut self,
         alloc: Heap,
-        program: &Indexed<'a>,
+        program: &'t Indexed<'_>,
         to: &Option<Text>,
-        callee: &'a Text,
+        callee: &Text,
         operands: &[Operand],
     ) -> Result<Reach, OutOfMemory>
         requires sound { IsSound program.now self.old }
@@ -165,25 +128,18 @@ impl Machine {
     fn cells_for(
         &self,
         alloc: Heap,
-        program: &Indexed<'_>,
+        program: &'t Indexed<'_>,
         k: usize,
         operands: &[Operand],
-    ) -> Result<Cells, OutOfMemory>
+    ) -> Result<Cells<'t>, OutOfMemory>
         requires sound { IsSound program.now self.now }
         requires within { k < length program.now.functions }
         requires limits { IsLimited program.now }
         ensures { IfOk result (λ cells. cells ≡ cells_made (function_of program.now k).params (values_of program.now.globals (scope_of (control_of program.now self.now.top)) self.now.world.cells operands.now) 0 ++ cells_made (function_of program.now k).registers [] 0) }
     {
-        let caller = program.function_at(self.top.function);
-        let values = entry::arguments(
-            alloc,
-            program.globals(),
-            caller.locals.as_slice(),
-            self.top.serial,
-            &self.world.cells,
-            operands,
-        )?;
-        entry::registers(alloc, program.function_at(k), values.as_slice())
+        let scope = program.scope(self.top.function, self.top.serial);
+        let values = entry::arguments(alloc, &scope, &self.world.cells, operands)?;
+        entry::registers(alloc, program, k, values.as_slice())
     }
 
     /// Begins a frame, with its locals.
@@ -192,12 +148,12 @@ impl Machine {
         program: &Indexed<'_>,
         function: usize,
         takes: Option<Text>,
-        cells: Cells,
+        cells: Cells<'t>,
     ) -> Result<(), OutOfMemory>
         requires room { self.old.next < 2 ^ 64 }
         requires limits { IsLimited program.now }
         requires within { function < length program.now.functions }
-        ensures { OnOk result (Begins self.old function takes cells (with_locals program.now.structs self.old.next 0 (function_of program.now function).locals (self.old.world.memory)) self.new) }
+        ensures { OnOk result (Begins self.old function takes cells.entry (with_locals program.now.structs self.old.next 0 (function_of program.now function).locals (self.old.world.memory)) self.new) }
     {
         let serial = self.next as u64;
         self.world.memory.add_frame(program, function, serial)?;
@@ -264,7 +220,7 @@ impl Machine {
     }
 
     /// One statement or end.
-    pub fn step<'a>(&mut self, alloc: Heap, program: &Indexed<'a>) -> Result<Step, OutOfMemory>
+    pub fn step(&mut self, alloc: Heap, program: &'t Indexed<'_>) -> Result<Step, OutOfMemory>
         requires sound { IsSound program.now self.old }
         requires limits { IsLimited program.now }
         ensures { IfOk result (λ next. Leads program.now self.old.next next (step program.now (state_of program.now self.old)) self.new) }
@@ -281,11 +237,11 @@ impl Machine {
     }
 
     /// One statement.
-    fn perform<'a>(
+    fn perform(
         &mut self,
         alloc: Heap,
-        program: &Indexed<'a>,
-        statement: &'a Stmt,
+        program: &'t Indexed<'_>,
+        statement: &Stmt,
     ) -> Result<Step, OutOfMemory>
         requires sound { IsSound program.now self.old }
         requires limits { IsLimited program.now }
@@ -300,15 +256,8 @@ impl Machine {
             let reach = self.enter(alloc, program, to, callee, arguments.as_slice())?;
             return Ok(Step::Reaches(reach));
         }
-        let function = program.function_at(self.top.function);
-        let trap = self.world.act(
-            alloc,
-            program.globals(),
-            function.locals.as_slice(),
-            self.top.serial,
-            statement,
-        )?;
-        match trap {
+        let scope = program.scope(self.top.function, self.top.serial);
+        match self.world.act(alloc, &scope, statement)? {
             Some(kind) => Ok(Step::Reaches(Reach::Traps(kind))),
             None => Ok(Step::Goes),
         }
@@ -320,19 +269,13 @@ impl Machine {
         requires limits { IsLimited program.now }
         ensures { result ≡ value_of program.now.globals (scope_of (control_of program.now self.now.top)) self.now.world.cells operand.now }
     {
-        let function = program.function_at(self.top.function);
-        values::operand(
-            program.globals(),
-            function.locals.as_slice(),
-            self.top.serial,
-            &self.world.cells,
-            operand,
-        )
+        let scope = program.scope(self.top.function, self.top.serial);
+        values::operand(&scope, &self.world.cells, operand)
     }
 
     /// What the run has printed.
     pub fn into_output(self) -> Text
-        ensures { result ≡ self.world.output }
+        ensures { result ≡ self.entry.world.output }
     {
         let Machine {
             top: _,
@@ -351,7 +294,7 @@ impl Machine {
     }
 
     /// The statements up to the next transfer.
-    pub fn walk(&mut self, alloc: Heap, program: &Indexed<'_>) -> Result<Reach, OutOfMemory>
+    pub fn walk(&mut self, alloc: Heap, program: &'t Indexed<'_>) -> Result<Reach, OutOfMemory>
         requires sound { IsSound program.now self.old }
         requires limits { IsLimited program.now }
         ensures { IfOk result (λ reach. Arrives program.now self.old.next reach (walk program.now (state_of program.now self.old).top.rest (state_of program.now self.old)) self.new) }
@@ -392,7 +335,7 @@ fn status(value: Option<Value>) -> i32
 }
 
 /// A result put into the register that takes it.
-fn give(cells: &mut Cells, to: &Option<Text>, value: Option<Value>)
+fn give(cells: &mut Cells<'_>, to: &Option<Text>, value: Option<Value>)
     ensures { cells.new ≡ given cells.old to.now value }
 {
     if let (Some(to), Some(value)) = (to, value) {

@@ -8,13 +8,14 @@ ghost use Rattle.gimple_core.specs.Memory.{same_object, is_slot, found_at, found
 ghost use Rattle.gimple_core.specs.Run.{filled, item_value};
 
 use crate::extents::Extents;
-use crate::indexed::{Indexed, local_layouts};
+use crate::indexed::Indexed;
 use crate::slots::Slots;
 use crate::values;
 use gimple_core::{
-    Decl, Extent, FoundSlot, Layout, LayoutSlot, MemorySlot, Object, Operand, OutOfMemory, Program,
+    Extent, FoundSlot, Layout, LayoutSlot, MemorySlot, Object, Operand, OutOfMemory, Program,
     Scalar, TrapKind, Value, layout_of,
 };
+use name_tables::NamedGlobals;
 use std::alloc::Global as Heap;
 use std::marker::Model;
 
@@ -99,7 +100,7 @@ fn fill(
 /// The values of a global's items.
 fn item_values(
     alloc: Heap,
-    globals: &[gimple_core::Global],
+    globals: &NamedGlobals<'_>,
     items: &[Operand],
 ) -> Result<Vec<Value>, OutOfMemory>
     requires { length globals.now < 2 ^ 32 }
@@ -197,22 +198,6 @@ impl Memory {
         Ok(())
     }
 
-    /// Adds the locals of a frame.
-    pub fn add_locals(
-        &mut self,
-        alloc: Heap,
-        program: &Program,
-        locals: &[Decl],
-        serial: u64,
-    ) -> Result<(), OutOfMemory>
-        requires few { length locals.now < 2 ^ 32 }
-        requires layouts { All (λ d. HasLayout program.now.structs d) locals.now }
-        ensures { OnOk result (self.new ≡ with_locals program.now.structs serial 0 locals.now self.old) }
-    {
-        let layouts = local_layouts(alloc, program, locals)?;
-        self.add_layouts(layouts.as_slice(), serial)
-    }
-
     /// Adds the locals of a function's frame.
     pub fn add_frame(
         &mut self,
@@ -228,20 +213,31 @@ impl Memory {
     }
 
     /// Adds the globals of a program.
-    pub fn add_globals(
+    pub fn add_program(&mut self, alloc: Heap, program: &Indexed<'_>) -> Result<(), OutOfMemory>
+        requires { IsLimited program.now }
+        ensures { OnOk result (self.new ≡ with_globals program.now.structs program.now.globals 0 program.now.globals self.old) }
+    {
+        let source = program.source();
+        self.add_globals(alloc, source, program.globals(), source.globals.as_slice())
+    }
+
+    /// Adds these globals, whose items name those of a table.
+    fn add_globals(
         &mut self,
         alloc: Heap,
         program: &Program,
+        named: &NamedGlobals<'_>,
         globals: &[gimple_core::Global],
     ) -> Result<(), OutOfMemory>
         requires few { length globals.now < 2 ^ 32 }
+        requires named { length named.now < 2 ^ 32 }
         requires layouts { All (λ g. HasLayout program.now.structs g.decl) globals.now }
-        ensures { OnOk result (self.new ≡ with_globals program.now.structs globals.now 0 globals.now self.old) }
+        ensures { OnOk result (self.new ≡ with_globals program.now.structs named.now 0 globals.now self.old) }
     {
         for k in 0..globals.len() {
             let global = &globals[k];
             let layout = layout_of(alloc, program, &global.decl)?;
-            let values = item_values(alloc, globals, global.items.as_slice())?;
+            let values = item_values(alloc, named, global.items.as_slice())?;
             let object = Object::Global(k as u32);
             self.add_object(object, &layout, global.constant, values.as_slice())?;
         }

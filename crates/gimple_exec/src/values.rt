@@ -1,18 +1,19 @@
 //! Values, and what operands, places and operators make of them.
 
-ghost use Rattle.std.specs.Prelude.{◌≡◌, ◌<◌, ◌^◌, ◌++◌, ◌+ℤ◌, [], length, IsTrue, find, position};
-ghost use Rattle.std.specs.Option.{option_copied};
-ghost use Rattle.gimple_core.specs.Names.{same_name};
+ghost use Rattle.std.specs.Prelude.{◌≡◌, ◌<◌, ◌^◌, ◌+ℤ◌, length, IsTrue};
 ghost use Rattle.gimple_core.specs.Operators.{in_scalar, wrapped, IsWord, IsRightSide};
 ghost use Rattle.gimple_core.specs.Memory.{same_object, same_scalar, number_of, moved_by, is_slot};
 ghost use Rattle.gimple_core.specs.State.{number_in, offset_in, zero_of};
 ghost use Rattle.gimple_core.specs.Run.{item_value, address_of, address_of_global, value_of, base_value, place_value, any_number, right_number, arith_of, compares, converted, same_pointer, pointers_compare, one_if};
+ghost use Rattle.gimple_exec.specs.Frames.{locals_in, IsNarrow};
 
 use crate::cells::Cells;
+use crate::scope::Scope;
 use gimple_core::{
-    Base, Cmp, Decl, Object, Op, Operand, Place, Scalar, Text, TrapKind, Value, eval_cmp, eval_op,
-    fits, same_name, wrap,
+    Base, Cmp, Object, Op, Operand, Place, Scalar, Text, TrapKind, Value, eval_cmp, eval_op, fits,
+    wrap,
 };
+use name_tables::NamedGlobals;
 
 /// Whether two objects are the same.
 pub fn is_same_object(left: Object, right: Object) -> bool
@@ -112,25 +113,13 @@ pub fn offset(value: i128) -> i128
     number_of_value(Scalar::I64, Value::Int(value))
 }
 
-fn global_place(globals: &[gimple_core::Global], name: &Text) -> Option<usize>
-    ensures { result ≡ position (λ g. same_name g.decl.name name.now) globals.now }
-{
-    globals.iter().position(|g| same_name(&g.decl.name, name))
-}
-
-fn local_place(locals: &[Decl], name: &Text) -> Option<usize>
-    ensures { result ≡ position (λ d. same_name d.name name.now) locals.now }
-{
-    locals.iter().position(|d| same_name(&d.name, name))
-}
-
 /// The address of a global.
 #[tactic(auto, unfolding(gimple_core::specs::Run::address_of_global))]
-pub fn global_address(globals: &[gimple_core::Global], name: &Text) -> Value
+pub fn global_address(globals: &NamedGlobals<'_>, name: &Text) -> Value
     requires { length globals.now < 2 ^ 32 }
     ensures { result ≡ address_of_global globals.now name.now }
 {
-    match global_place(globals, name) {
+    match globals.place(name) {
         Some(k) => Value::At {
             object: Object::Global(k as u32),
             offset: 0,
@@ -211,7 +200,7 @@ pub fn convert(scalar: Scalar, value: Value) -> Value
 }
 
 /// The value of an item of a global; a register is none.
-pub fn item(globals: &[gimple_core::Global], from: &Operand) -> Value
+pub fn item(globals: &NamedGlobals<'_>, from: &Operand) -> Value
     requires { length globals.now < 2 ^ 32 }
     ensures { result ≡ item_value globals.now from.now }
 {
@@ -238,34 +227,26 @@ pub fn zero(scalar: Scalar) -> Value
 
 /// The address of a variable that a frame sees.
 #[tactic(auto, unfolding(gimple_core::specs::Run::address_of))]
-pub fn address(globals: &[gimple_core::Global], locals: &[Decl], serial: u64, name: &Text) -> Value
-    requires globals { length globals.now < 2 ^ 32 }
-    requires locals { length locals.now < 2 ^ 32 }
-    ensures { result ≡ address_of globals.now (record { locals = locals.now; serial = serial }) name.now }
+pub fn address(scope: &Scope<'_>, name: &Text) -> Value
+    requires { IsNarrow scope.now }
+    ensures { result ≡ address_of scope.now.globals.now (locals_in scope.now) name.now }
 {
-    match local_place(locals, name) {
+    match scope.locals.place(name) {
         Some(k) => Value::At {
             object: Object::Local {
-                serial,
+                serial: scope.serial,
                 number: k as u32,
             },
             offset: 0,
         },
-        None => global_address(globals, name),
+        None => global_address(scope.globals, name),
     }
 }
 
 /// The value of an operand.
-pub fn operand(
-    globals: &[gimple_core::Global],
-    locals: &[Decl],
-    serial: u64,
-    cells: &Cells,
-    from: &Operand,
-) -> Value
-    requires globals { length globals.now < 2 ^ 32 }
-    requires locals { length locals.now < 2 ^ 32 }
-    ensures { result ≡ value_of globals.now (record { locals = locals.now; serial = serial }) cells.now from.now }
+pub fn operand(scope: &Scope<'_>, cells: &Cells<'_>, from: &Operand) -> Value
+    requires { IsNarrow scope.now }
+    ensures { result ≡ value_of scope.now.globals.now (locals_in scope.now) cells.now from.now }
 {
     match from {
         Operand::Reg(name) => cells.value(name),
@@ -274,25 +255,18 @@ pub fn operand(
         Operand::Address {
             variable,
             offset: by,
-        } => { move_by(address(globals, locals, serial, variable), offset(*by)) }
+        } => { move_by(address(scope, variable), offset(*by)) }
     }
 }
 
 /// Where a place points.
-pub fn pointer(
-    globals: &[gimple_core::Global],
-    locals: &[Decl],
-    serial: u64,
-    cells: &Cells,
-    place: &Place,
-) -> Value
-    requires globals { length globals.now < 2 ^ 32 }
-    requires locals { length locals.now < 2 ^ 32 }
-    ensures { result ≡ place_value globals.now (record { locals = locals.now; serial = serial }) cells.now place.now }
+pub fn pointer(scope: &Scope<'_>, cells: &Cells<'_>, place: &Place) -> Value
+    requires { IsNarrow scope.now }
+    ensures { result ≡ place_value scope.now.globals.now (locals_in scope.now) cells.now place.now }
 {
     let base = match &place.base {
         Base::Reg(name) => cells.value(name),
-        Base::Variable(name) => address(globals, locals, serial, name),
+        Base::Variable(name) => address(scope, name),
     };
     move_by(base, offset(place.offset))
 }

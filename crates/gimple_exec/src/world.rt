@@ -1,23 +1,23 @@
 //! What a statement that is no call does.
 
-ghost use Rattle.std.specs.Prelude.{◌≡◌, ◌<◌, ◌^◌, length, IfOk, OnOk, slice_get, Ok, Err, string_bytes};
+ghost use Rattle.std.specs.Prelude.{◌≡◌, IfOk, OnOk, slice_get, Ok, Err, string_bytes};
 ghost use Rattle.std.specs.Fmt.{signed_decimal};
 ghost use Rattle.gimple_core.specs.Operators.{IsWord};
 ghost use Rattle.gimple_core.specs.Run.{act, assign, assign_result, loaded, stored, got, put};
 ghost use Rattle.gimple_exec.specs.Acts.{world_of, Acts};
+ghost use Rattle.gimple_exec.specs.Frames.{locals_in, IsNarrow};
 
 use crate::cells::Cells;
 use crate::memory::Memory;
+use crate::scope::Scope;
 use crate::values;
-use gimple_core::{
-    Decl, FoundSlot, Listed, Operand, OutOfMemory, Scalar, Stmt, Text, TrapKind, Value,
-};
+use gimple_core::{FoundSlot, Listed, Operand, OutOfMemory, Scalar, Stmt, Text, TrapKind, Value};
 use std::alloc::Global as Heap;
 
 /// What a statement that is no call can change.
 #[derive(Drop)]
-pub struct World {
-    pub cells: Cells,
+pub struct World<'a> {
+    pub cells: Cells<'a>,
     pub memory: Memory,
     pub input: Listed<i64>,
     pub taken: usize,
@@ -36,7 +36,7 @@ pub fn number_text(alloc: Heap, number: i128) -> Result<String, OutOfMemory>
     }
 }
 
-impl World {
+impl<'a> World<'a> {
     fn assign_result(&mut self, to: &Text, found: Result<Value, TrapKind>) -> Option<TrapKind>
         ensures { Acts self.old result (assign_result (world_of self.old) to.now found) self.new }
     {
@@ -106,18 +106,15 @@ impl World {
     pub fn act(
         &mut self,
         alloc: Heap,
-        globals: &[gimple_core::Global],
-        locals: &[Decl],
-        serial: u64,
+        scope: &Scope<'_>,
         statement: &Stmt,
     ) -> Result<Option<TrapKind>, OutOfMemory>
-        requires globals { length globals.now < 2 ^ 32 }
-        requires locals { length locals.now < 2 ^ 32 }
-        ensures { IfOk result (λ trap. Acts self.old trap (act globals.now (record { locals = locals.now; serial = serial }) statement.now (world_of self.old)) self.new) }
+        requires { IsNarrow scope.now }
+        ensures { IfOk result (λ trap. Acts self.old trap (act scope.now.globals.now (locals_in scope.now) statement.now (world_of self.old)) self.new) }
     {
         match statement {
             Stmt::Copy { to, from } => {
-                let value = values::operand(globals, locals, serial, &self.cells, from);
+                let value = values::operand(scope, &self.cells, from);
                 self.cells.assign(to, value);
                 Ok(None)
             }
@@ -127,8 +124,8 @@ impl World {
                 op,
                 right,
             } => {
-                let left = values::operand(globals, locals, serial, &self.cells, left);
-                let right = values::operand(globals, locals, serial, &self.cells, right);
+                let left = values::operand(scope, &self.cells, left);
+                let right = values::operand(scope, &self.cells, right);
                 let scalar = self.cells.scalar(to);
                 Ok(self.assign_result(to, values::arith(scalar, left, *op, right)))
             }
@@ -138,19 +135,19 @@ impl World {
                 cmp,
                 right,
             } => {
-                let left = values::operand(globals, locals, serial, &self.cells, left);
-                let right = values::operand(globals, locals, serial, &self.cells, right);
+                let left = values::operand(scope, &self.cells, left);
+                let right = values::operand(scope, &self.cells, right);
                 self.cells
                     .assign(to, values::truth(values::compare(left, *cmp, right)));
                 Ok(None)
             }
             Stmt::Convert { to, scalar, from } => {
-                let value = values::operand(globals, locals, serial, &self.cells, from);
+                let value = values::operand(scope, &self.cells, from);
                 self.cells.assign(to, values::convert(*scalar, value));
                 Ok(None)
             }
             Stmt::Load { to, scalar, place } => {
-                let pointer = values::pointer(globals, locals, serial, &self.cells, place);
+                let pointer = values::pointer(scope, &self.cells, place);
                 let found = self.memory.found(pointer, *scalar);
                 Ok(self.load(to, found))
             }
@@ -159,8 +156,8 @@ impl World {
                 place,
                 from,
             } => {
-                let pointer = values::pointer(globals, locals, serial, &self.cells, place);
-                let value = values::operand(globals, locals, serial, &self.cells, from);
+                let pointer = values::pointer(scope, &self.cells, place);
+                let value = values::operand(scope, &self.cells, from);
                 let found = self.memory.found(pointer, *scalar);
                 Ok(self.store(*scalar, value, found))
             }
@@ -169,7 +166,7 @@ impl World {
                 Ok(None)
             }
             Stmt::Put { from } => {
-                let value = values::operand(globals, locals, serial, &self.cells, from);
+                let value = values::operand(scope, &self.cells, from);
                 self.put(alloc, value)?;
                 Ok(None)
             }

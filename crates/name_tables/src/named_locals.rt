@@ -1,6 +1,6 @@
 //! Locals in a row, each found by its name.
 
-ghost use Rattle.std.specs.Prelude.{◌≡◌, IfOk, map};
+ghost use Rattle.std.specs.Prelude.{◌≡◌, IfOk, map, position};
 ghost use Rattle.std.specs.List.{list_any};
 ghost use Rattle.gimple_core.specs.Names.{same_name};
 
@@ -46,10 +46,17 @@ impl<'a> NamedLocals<'a> {
         Ok(NamedLocals { locals, names })
     }
 
+    /// The place of the first local of a name; None exactly where no local has it.
+    pub fn place(&self, name: &Text) -> Option<usize>
+        ensures { result ≡ position (λ d. same_name d.name name.now) self.now }
+    {
+        self.names.place(name.as_slice())
+    }
+
     /// Whether a local has the name.
     pub fn has(&self, name: &Text) -> bool
         ensures { result ≡ list_any (λ d. same_name d.name name.now) self.now }
     {
-        self.names.place(name.as_slice()).is_some()
+        self.place(name).is_some()
     }
 }

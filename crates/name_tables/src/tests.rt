@@ -132,6 +132,7 @@ fn locals_by_name(rt: HostRuntime) -> Result<(), Fail> {
         Text::from_bytes(alloc, b"z")?,
     );
     let table = NamedLocals::new(alloc, row.as_slice())?;
+    assert!(rt; table.place(&last) == Some(9) && table.place(&missing) == None);
     assert!(rt; table.has(&last) && !table.has(&missing));
     Ok(())
 }

@@ -9,4 +9,4 @@ pub returns : goal.returns
 returns c =
     let within = subst (λ (p : Program). c.args.function < length p.functions) (sym c.self.view_is) c.requires in
     subst (λ (p : Program). IsPlace (λ b. b.label == c.args.label) (function_of p c.args.function).blocks c.place.result) c.self.view_is
-    (label_in c.self.inside.program.now c.self.inside.labels.items c.args.function c.args.label c.index.result.now c.place.result c.self.invariant.labels within c.index.ensures c.place.ensures)
+    (label_in c.self.inside.program.now c.self.inside.tables.items c.args.function c.args.label c.index.result.now c.place.result c.self.invariant.tables within c.index.ensures c.place.ensures)

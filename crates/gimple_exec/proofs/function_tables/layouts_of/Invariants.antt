@@ -1,6 +1,6 @@
 use Rattle.std.proofs.Common.{◌≡◌, take}
 use Rattle.gimple_exec.specs.Tables.{layouts_of}
-use Rattle.gimple_exec.proofs.indexed.local_layouts.Given as goal
+use Rattle.gimple_exec.proofs.function_tables.layouts_of.Given as goal
 
 abbrev pub invariant-loop-local : goal.invariant-loop-local
 invariant-loop-local l = l.layouts ≡ layouts_of l.program.structs (take l.local-index l.locals)

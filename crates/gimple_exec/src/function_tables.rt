@@ -1,0 +1,85 @@
+//! What is found in a function again and again.
+
+ghost use Rattle.std.specs.Prelude.{◌≡◌, ◌++◌, IfOk, OnOk};
+ghost use Rattle.std.specs.List.{All};
+ghost use Rattle.gimple_core.specs.Layout.{HasLayout};
+ghost use Rattle.gimple_exec.specs.Frames.{declared_by};
+ghost use Rattle.gimple_exec.specs.Tables.{labels_of, layouts_of, tables_of};
+
+use gimple_core::{
+    Block, Decl, Exact, Function, Layout, Listed, OutOfMemory, Program, Register, layout_of,
+};
+use name_tables::{Labels, NamedLocals, RegisterTable};
+use std::alloc::Global as Heap;
+
+/// The places of a function's labels, registers and locals, formals before the other registers, and the layouts of its
+/// locals.
+#[derive(Drop)]
+pub struct FunctionTables<'a> {
+    pub labels: Labels,
+    pub layouts: Listed<Layout>,
+    pub registers: RegisterTable,
+    pub locals: NamedLocals<'a>,
+}
+
+fn labels_of(alloc: Heap, blocks: &[Block]) -> Result<Labels, OutOfMemory>
+    ensures { IfOk result (λ labels. labels ≡ labels_of blocks.now) }
+{
+    let mut labels = Labels::new(alloc);
+    for block in blocks {
+        labels.push(block.label)?;
+    }
+    Ok(labels)
+}
+
+fn layouts_of(
+    alloc: Heap,
+    program: &Program,
+    locals: &[Decl],
+) -> Result<Listed<Layout>, OutOfMemory>
+    requires { All (λ d. HasLayout program.now.structs d) locals.now }
+    ensures { IfOk result (λ layouts. layouts ≡ layouts_of program.now.structs locals.now) }
+{
+    let mut layouts = Listed::new(alloc);
+    for local in locals {
+        layouts.push(layout_of(alloc, program, local)?)?;
+    }
+    Ok(layouts)
+}
+
+fn put_copies(registers: &[Register], table: &mut RegisterTable) -> Result<(), OutOfMemory>
+    ensures { OnOk result (table.new ≡ table.old ++ registers.now) }
+{
+    for at in 0..registers.len() {
+        table.push(registers[at].copy()?)?;
+    }
+    Ok(())
+}
+
+fn registers_of(alloc: Heap, function: &Function) -> Result<RegisterTable, OutOfMemory>
+    ensures { IfOk result (λ registers. registers ≡ declared_by function.now) }
+{
+    let mut table = RegisterTable::new(alloc);
+    put_copies(function.params.as_slice(), &mut table)?;
+    put_copies(function.registers.as_slice(), &mut table)?;
+    Ok(table)
+}
+
+impl<'a> FunctionTables<'a> {
+    /// The tables of a function of a program. Err is want of memory.
+    pub fn new(
+        alloc: Heap,
+        program: &Program,
+        function: &'a Function,
+    ) -> Result<FunctionTables<'a>, OutOfMemory>
+        requires { All (λ d. HasLayout program.now.structs d) function.now.locals }
+        ensures { IfOk result (λ tables. tables ≡ tables_of program.now.structs function.now) }
+    {
+        Ok(FunctionTables {
+            labels: labels_of(alloc, function.blocks.as_slice())?,
+            layouts: layouts_of(alloc, program, function.locals.as_slice())?,
+            registers: registers_of(alloc, function)?,
+            locals: NamedLocals::new(alloc, function.locals.as_slice())?,
+        })
+    }
+}
