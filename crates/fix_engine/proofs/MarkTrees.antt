@@ -1,10 +1,9 @@
 -- The root of the tree of marks is the least marked number.
-use Rattle.std.proofs.Common.{◌≡◌, ◌≢◌, ℕ, zero, suc, ◌+◌, ◌-◌, ◌*◌, ◌/◌, ◌<◌, ◌≤◌, ◌⊎◌, min, inl, inr, Bool, true, false, List, length, set, get_or, replicate, refl, sym, ◌∙◌, subst, arith}
-use Rattle.std.proofs.lemmas.List.{get_or-set_same, get_or-set_other, get_or-replicate, get_or_read}
+use Rattle.std.proofs.Common.{◌≡◌, ◌≢◌, ℕ, zero, suc, ◌+◌, ◌-◌, ◌*◌, ◌/◌, ◌<◌, ◌≤◌, ◌⊎◌, inl, inr, Bool, true, false, List, length, get_or, sym, subst, arith}
+use Rattle.std.proofs.lemmas.List.{get_or_read}
 use Rattle.std.proofs.lemmas.Bool.{cases_Bool, cases_lt}
 use Rattle.std.proofs.lemmas.Bool.Decides.{eqb_tells}
-use Rattle.std.proofs.Math.ListN.{length-set, length-replicate}
-use Rattle.fix_engine.specs.Marks.{IsFirstMark, IsRenewed, IsTree, SameFrom, own_place}
+use Rattle.fix_engine.specs.Marks.{IsFirstMark, IsTree, own_place}
 
 module _ (marked : List Bool) (least : List ℕ) (tree : IsTree marked least) where
   root_from : (fuel j : ℕ) → j ≤ fuel → 0 < j → j < 2 * length marked → get_or least 1 0 ≤ get_or least j 0

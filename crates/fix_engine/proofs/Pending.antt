@@ -5,7 +5,7 @@ use Rattle.std.proofs.lemmas.Bool.{cases_Bool}
 use Rattle.std.proofs.lemmas.Bool.Decides.{eqb_tells}
 use Rattle.fix_engine.specs.Lattice.{LatticeLaws}
 use Rattle.fix_engine.specs.Least.{Equations, FlowLaws, IsBetween, IsSatisfied, value_at}
-use Rattle.fix_engine.specs.Solving.{posted, rises, raised, raises}
+use Rattle.fix_engine.specs.Solving.{posted, rises}
 use Rattle.fix_engine.proofs.Rising.{joined_below, target_fits, source_fits}
 
 -- what is read after a write, there and elsewhere

@@ -1,5 +1,5 @@
 -- What the code has that writes a value back which did not rise.
-use Rattle.std.proofs.Common.{◌≡◌, ℕ, ◌<◌, not, Bool, true, false, List, set, refl, sym, ◌∙◌, ap, subst}
+use Rattle.std.proofs.Common.{◌≡◌, ℕ, ◌<◌, not, Bool, true, List, set, sym, ◌∙◌, ap, subst}
 use Rattle.std.proofs.lemmas.List.{set-get_or}
 use Rattle.fix_engine.specs.Lattice.{LatticeLaws}
 use Rattle.fix_engine.specs.Least.{Equations, FlowLaws, IsBetween, value_at}

@@ -1,12 +1,12 @@
 -- A visit of a node: the edges that are left of it, by the next of them.
-use Rattle.std.proofs.Common.{◌≡◌, ◌≢◌, ℕ, ◌+◌, ◌<◌, ◌≤◌, ◌⊎◌, ◌&&◌, ◌==◌, not, nat_lt, inl, inr, Bool, true, false, List, Option, Some, None, IfSome, length, get_or, slice_index, refl, sym, ◌∙◌, ap, subst, arith, eq-eqb}
+use Rattle.std.proofs.Common.{◌≡◌, ◌≢◌, ℕ, ◌+◌, ◌<◌, ◌≤◌, ◌==◌, not, nat_lt, inl, inr, Bool, true, false, List, Option, Some, None, IfSome, length, slice_index, refl, sym, ◌∙◌, ap, subst, arith, eq-eqb}
 use Rattle.std.proofs.lemmas.Bool.{cases_Bool, cases_lt, ltb-true, lt-ltb}
 use Rattle.std.proofs.lemmas.Bool.Decides.{eqb_tells}
 use Rattle.fix_engine.specs.Bools.{and_left, and_right, both}
 use Rattle.fix_engine.specs.Lattice.{LatticeLaws}
-use Rattle.fix_engine.specs.Least.{Equations, FlowLaws, IsBetween, IsSatisfied, value_at}
+use Rattle.fix_engine.specs.Least.{Equations, FlowLaws, value_at}
 use Rattle.fix_engine.specs.Outgoing.{IsNextFrom}
-use Rattle.fix_engine.specs.Solving.{AreSources, Follows, IsVisiting, work_left, visits_left, follows_left, none_left, all_left, some_left, from_next}
+use Rattle.fix_engine.specs.Solving.{AreSources, Follows, IsVisiting, work_left, visits_left, follows_left, all_left, some_left, from_next}
 use Rattle.fix_engine.proofs.Work.{sum_below_le}
 use Rattle.fix_engine.proofs.Worklist.{one_if_from, visiting_followed, followed_work, followed_visits}
 

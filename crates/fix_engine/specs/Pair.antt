@@ -1,6 +1,6 @@
 -- Pairs of values of two lattices.
-use Rattle.std.specs.Prelude.{◌≡◌, ◌≢◌, ℕ, ◌+◌, ◌<◌, ◌≤◌, ◌⊎◌, ◌&&◌, Bool, true, false, List, [], ◌∷◌, take, drop, refl}
-use Rattle.std.proofs.Common.{inl, inr, arith, ap, sym, subst, ◌∙◌}
+use Rattle.std.specs.Prelude.{◌≡◌, ◌≢◌, ℕ, ◌+◌, ◌<◌, ◌⊎◌, ◌&&◌, Bool, true, List, [], ◌∷◌, take, drop}
+use Rattle.std.proofs.Common.{inl, inr, arith, ap, subst}
 use Rattle.std.proofs.lemmas.Bool.{cases_Bool}
 use Rattle.fix_engine.specs.declared.pair.Pair.{Pair}
 use Rattle.fix_engine.specs.Bools.{and_left, and_right, both}

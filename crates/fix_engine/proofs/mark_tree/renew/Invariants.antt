@@ -1,4 +1,4 @@
-use Rattle.std.proofs.Common.{◌≡◌, ◌*◌, ◌/◌, ◌<◌, ◌≤◌, length}
+use Rattle.std.proofs.Common.{◌≡◌, ◌*◌, ◌/◌, ◌<◌, length}
 use Rattle.fix_engine.specs.Marks.{IsRenewed, SameFrom}
 use Rattle.fix_engine.proofs.mark_tree.renew.Given as goal
 

@@ -1,4 +1,4 @@
-use Rattle.std.proofs.Common.{ℕ, zero, suc, ◌<◌, List, [], ◌∷◌, Contains, arith, refl}
+use Rattle.std.proofs.Common.{ℕ, zero, suc, ◌<◌, [], ◌∷◌, Contains, arith, refl}
 use Rattle.fix_engine.proofs.ring.in_eight_steps.Goals as goal
 
 each : (n : ℕ) → n < 4 → Contains (0 ∷ 1 ∷ 2 ∷ 3 ∷ []) n

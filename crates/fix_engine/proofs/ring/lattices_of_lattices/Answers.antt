@@ -1,4 +1,4 @@
-use Rattle.std.proofs.Common.{rules, ◌≡◌, Bool, true, false, List, [], ◌∷◌, length, refl, sym, subst}
+use Rattle.std.proofs.Common.{rules, ◌≡◌, Bool, true, false, List, [], ◌∷◌, refl, sym, subst}
 use Rattle.fix_engine.specs.Rows.{FitsRows}
 use Rattle.fix_engine.specs.Truth.{FitsAny}
 use Rattle.fix_engine.proofs.ring.lattices_of_lattices.Goals as goal

@@ -1,4 +1,4 @@
-use Rattle.std.proofs.Common.{rules, ◌<◌, length, arith}
+use Rattle.std.proofs.Common.{rules, ◌<◌, length}
 use Rattle.fix_engine.proofs.MarkTrees.{root_first, root_none}
 use Rattle.fix_engine.proofs.mark_tree.MarkTree.first.Goals as goal
 
