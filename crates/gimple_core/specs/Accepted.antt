@@ -6,7 +6,7 @@ use Rattle.gimple_ir.specs.declared.declarations.StructDef.{StructDef}
 use Rattle.gimple_ir.specs.declared.declarations.Global.{Global}
 use Rattle.gimple_ir.specs.declared.program.Program.{Program}
 use Rattle.gimple_ir.specs.declared.fault.TypeFault.{TypeFault}
-use Rattle.gimple_core.specs.Verdict.{Judgement, ◌>>=◌, ◌>>◌, pure, fault_of}
+use Rattle.gimple_core.specs.Verdict.{Judgement, ◌>>=◌, ◌>>◌, fault_of}
 use Rattle.gimple_core.specs.Env.{Env, Names, globals_by_name}
 use Rattle.gimple_core.specs.Declarations.{structs, globals, heads, main, functions}
 

@@ -1,5 +1,5 @@
 -- The checks of structs, globals, and the names of functions, in their order.
-use Rattle.std.specs.Prelude.{ℕ, zero, suc, ◌+◌, ◌==◌, Bool, true, false, not, ◌||◌, ◌&&◌, List, [], ◌∷◌, ◌++◌, length, nat_le, Option, Some, None, Result, Err, if◌then◌else◌}
+use Rattle.std.specs.Prelude.{ℕ, ◌+◌, ◌==◌, Bool, true, false, not, List, [], ◌∷◌, ◌++◌, length, nat_le, Option, Some, Err, if◌then◌else◌}
 use Rattle.std.specs.List.{list_any}
 use Rattle.std.specs.Str.{bytes_eq}
 use Rattle.gimple_ir.specs.declared.scalar.Scalar.{Scalar}
@@ -15,12 +15,11 @@ use Rattle.gimple_ir.specs.declared.operand.Operand.TheVariants.{Reg, Number, Nu
 use Rattle.gimple_ir.specs.declared.block.Block.{Block}
 use Rattle.gimple_ir.specs.declared.program.Function.{Function}
 use Rattle.gimple_ir.specs.declared.value.LayoutSlot.{LayoutSlot}
-use Rattle.gimple_ir.specs.declared.fault.Site.{Site}
 use Rattle.gimple_ir.specs.declared.fault.Site.TheVariants as site
 use Rattle.gimple_core.specs.Operators.{in_scalar}
 use Rattle.gimple_core.specs.Layout.{empty_layout, count_of, with_fields, struct_layouts, layout_of}
-use Rattle.gimple_core.specs.Verdict.{Verdict, Judgement, ◌>>=◌, ◌>>◌, pure, demand, found, at}
-use Rattle.gimple_core.specs.Env.{Env, Names, has, declared, structs_by_name, globals_by_name}
+use Rattle.gimple_core.specs.Verdict.{Verdict, Judgement, ◌>>=◌, ◌>>◌, pure, demand, at}
+use Rattle.gimple_core.specs.Env.{Env, Names, has, declared, structs_by_name}
 use Rattle.gimple_core.specs.Statements.{is_pointer, blocks}
 use Rattle.gimple_core.specs.Run.{main_name}
 

@@ -1,5 +1,5 @@
 -- What names mean in a function.
-use Rattle.std.specs.Prelude.{ℕ, Bool, true, false, ◌||◌, List, [], ◌∷◌, ◌++◌, map, is_some, Option, Some, None, Result, Ok, Err}
+use Rattle.std.specs.Prelude.{ℕ, Bool, true, false, ◌||◌, List, [], ◌∷◌, ◌++◌, map, is_some, Option, Some, None, Ok, Err}
 use Rattle.std.specs.Str.{bytes_eq}
 use Rattle.std.specs.Map.{lookup}
 use Rattle.gimple_ir.specs.declared.scalar.Scalar.{Scalar}
@@ -8,7 +8,7 @@ use Rattle.gimple_ir.specs.declared.declarations.StructDef.{StructDef}
 use Rattle.gimple_ir.specs.declared.declarations.Global.{Global}
 use Rattle.gimple_ir.specs.declared.declarations.Register.{Register}
 use Rattle.gimple_ir.specs.declared.program.Function.{Function}
-use Rattle.gimple_core.specs.Verdict.{Verdict, ◌>>=◌, ◌>>◌, pure, demand, found}
+use Rattle.gimple_core.specs.Verdict.{Verdict, ◌>>=◌, pure, found}
 
 -- items under their names, in file order
 abbrev pub Names : Type 0 → Type 0

@@ -1,9 +1,9 @@
 -- The checks of statements and of the ends of blocks, in their order.
-use Rattle.std.specs.Prelude.{ℕ, ◌+◌, ◌==◌, Bool, true, false, not, ◌||◌, ◌&&◌, if◌then◌else◌, List, [], ◌∷◌, ◌++◌, length, Option, Some, None, Result, Ok, Err, ℤ, pos, negsuc}
+use Rattle.std.specs.Prelude.{ℕ, ◌+◌, ◌==◌, Bool, true, false, not, ◌||◌, ◌&&◌, if◌then◌else◌, List, [], ◌∷◌, ◌++◌, length, Option, Some, None, Err, ℤ, pos, negsuc}
 use Rattle.std.specs.List.{list_any}
 use Rattle.std.specs.Ordering.{int_eq}
 use Rattle.gimple_ir.specs.declared.scalar.Scalar.{Scalar}
-use Rattle.gimple_ir.specs.declared.scalar.Scalar.TheVariants.{I8, I16, I32, I64, U8, U16, U32, U64, Ptr}
+use Rattle.gimple_ir.specs.declared.scalar.Scalar.TheVariants.{I64, U64, Ptr}
 use Rattle.gimple_ir.specs.declared.scalar.Op.{Op}
 use Rattle.gimple_ir.specs.declared.scalar.Op.TheVariants.{Add, Shl, Shr}
 use Rattle.gimple_ir.specs.declared.scalar.Cmp.{Cmp}
@@ -22,7 +22,6 @@ use Rattle.gimple_ir.specs.declared.block.Block.{Block}
 use Rattle.gimple_ir.specs.declared.declarations.Register.{Register}
 use Rattle.gimple_ir.specs.declared.value.LayoutSlot.{LayoutSlot}
 use Rattle.gimple_ir.specs.declared.program.Function.{Function}
-use Rattle.gimple_ir.specs.declared.fault.Site.{Site}
 use Rattle.gimple_ir.specs.declared.fault.Site.TheVariants as site
 use Rattle.gimple_core.specs.Memory.{same_scalar}
 use Rattle.gimple_core.specs.Operators.{in_scalar}

@@ -1,5 +1,5 @@
 -- What the names, statements and ends of a program without a type fault are.
-use Rattle.std.specs.Prelude.{◌≡◌, ℕ, ◌==◌, ◌++◌, Bool, true, false, ◌&&◌, List, [], ◌∷◌, map, Option, Some, None, ℤ}
+use Rattle.std.specs.Prelude.{◌≡◌, ℕ, ◌==◌, ◌++◌, true, false, ◌&&◌, List, [], ◌∷◌, map, Option, Some, None, ℤ}
 use Rattle.std.specs.List.{list_any}
 use Rattle.gimple_ir.specs.declared.scalar.Scalar.{Scalar}
 use Rattle.gimple_ir.specs.declared.scalar.Scalar.TheVariants.{I32, I64, Ptr}
