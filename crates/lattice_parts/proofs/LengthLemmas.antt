@@ -1,5 +1,5 @@
 -- Results that are gathered are never fewer than what was there.
-use Rattle.std.proofs.Common.{cond, ◌≡◌, suc, ◌≤◌, Bool, true, false, arith, List, [], ◌∷◌, length, Option, Some, None}
+use Rattle.std.proofs.Common.{cond, suc, ◌≤◌, Bool, true, false, arith, List, [], ◌∷◌, length, Option, Some, None}
 use Rattle.lattice_parts.specs.Sets.{placed, placed_some, mapped, gathered}
 
 placed_longer : {X : Type 0} (lt : X → X → Bool) (c : X) (xs : List X) → length xs ≤ length (placed lt c xs)
