@@ -2,7 +2,6 @@
 use Rattle.std.specs.Prelude.{[], ◌∷◌, Some, None, pos}
 use Rattle.gimple_ir.specs.declared.block.End.TheVariants.{Return}
 use Rattle.gimple_ir.specs.declared.operand.Operand.TheVariants.{Number}
-use Rattle.gimple_ir.specs.declared.program.Function.{Function}
 use Rattle.gimple_ir.specs.declared.program.Program.{Program}
 use Rattle.gimple_ir.specs.declared.scalar.Scalar.TheVariants.{I32}
 use Rattle.gimple_ir.specs.declared.statement.Stmt.TheVariants.{Call}

@@ -1,6 +1,6 @@
 use Rattle.std.proofs.Common.{◌≡◌, ◌<◌, ◌++◌, [], length, get_or, drop, sym, ap, ◌∙◌, arith}
 use Rattle.std.proofs.lemmas.Grind.{common_steps}
-use Rattle.ipa_dumps.specs.Dumps.{component_text, components_text}
+use Rattle.ipa_dumps.specs.Dumps.{component_text}
 use Rattle.ipa_dumps.proofs.Lines.{one_more, no_more}
 use Rattle.ipa_dumps.proofs.cgraph.push_components.Goals as goal
 
