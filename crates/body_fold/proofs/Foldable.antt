@@ -110,6 +110,7 @@ module _ (s : Folder) (p : Program) (n : ℕ) (f : Function) (t : Found) (h : Is
 
   pub is_folder : IsFolder s
   is_folder = record {
+    tables = h.tables ∙ sym h.program;
     globals = h.globals ∙ ap (λ (q : Program). q.globals) (sym h.program);
     locals = h.locals ∙ ap (λ (x : Function). x.locals) (sym h.function);
     registers = registers_are ∙ ap (λ (x : Function). x.params ++ x.registers) (sym h.function);

@@ -10,9 +10,10 @@ use Rattle.body_values.specs.Found.{Found, AreFound}
 use Rattle.body_values.specs.System.{FactsFit}
 use Rattle.body_fold.specs.declared.folder.Folder.{Folder}
 
--- the scene is that of the function and of its values, and nothing is given of loads
+-- the scene is that of the function and of its values, nothing is given of loads, and the tables are the program's
 pub record IsFolderOf (s : Folder) (p : Program) (f : Function) (t : Found) : Type 0 where
   pub program : s.scene.program.now ≡ p
+  pub tables : s.tables.now.program ≡ p
   pub globals : s.scene.globals.now ≡ p.globals
   pub function : s.function.now ≡ f
   pub locals : s.scene.locals.now ≡ f.locals

@@ -9,35 +9,34 @@ ghost use Rattle.body_fold.specs.Settings.{IsFolderOf, IsFoldable};
 
 use crate::folder::Folder;
 use crate::links::linked;
-use body_values::{BodyValues, LoadTable, Scene};
-use gimple_core::{Block, Checked, Exact, Function, Listed, OutOfMemory, Program};
-use name_tables::{NamedGlobals, NamedLocals};
+use body_values::{BodyValues, LoadTable, ProgramTables, Scene};
+use gimple_core::{Block, Checked, Exact, Function, Listed, OutOfMemory};
+use name_tables::NamedLocals;
 use std::alloc::Global;
 
 fn folder_of<'a>(
     alloc: Global,
-    program: &'a Program,
-    globals: &'a NamedGlobals<'a>,
+    tables: &'a ProgramTables<'a>,
     locals: &'a NamedLocals<'a>,
     loads: &'a LoadTable<'a>,
     function: &'a Function,
     values: &'a BodyValues,
 ) -> Folder<'a>
-    requires globals { globals.now ≡ program.now.globals }
     requires locals { locals.now ≡ function.now.locals }
     requires loads { loads.now.facts ≡ [] }
-    ensures { IsFolderOf result program.now function.now values.now }
+    ensures { IsFolderOf result tables.now.program function.now values.now }
 {
     Folder {
         scene: Scene {
-            program,
-            globals,
+            program: tables.program(),
+            globals: tables.globals(),
             locals,
             registers: values.registers(),
             loads,
             limits: values.limits(),
             alloc,
         },
+        tables,
         function,
     }
 }
@@ -83,19 +82,17 @@ fn with_blocks(function: &Function, blocks: Vec<Block>) -> Result<Function, OutO
 
 fn fold_function(
     alloc: Global,
-    program: &Program,
-    globals: &NamedGlobals,
+    tables: &ProgramTables,
     number: u32,
     function: &Function,
     values: &BodyValues,
 ) -> Result<Function, OutOfMemory>
-    requires foldable { IsFoldable program.now number function.now values.now }
-    requires named { globals.now ≡ program.now.globals }
-    ensures { IfOk result (IsFoldOf program.now number values.now) }
+    requires foldable { IsFoldable tables.now.program number function.now values.now }
+    ensures { IfOk result (IsFoldOf tables.now.program number values.now) }
 {
     let locals = NamedLocals::new(alloc, function.locals.as_slice())?;
     let loads = LoadTable::empty(alloc, number);
-    let folder = folder_of(alloc, program, globals, &locals, &loads, function, values);
+    let folder = folder_of(alloc, tables, &locals, &loads, function, values);
     let all = folder.blocks(values)?;
     let marks = linked(alloc, all.as_slice())?;
     let kept = keep_marked(alloc, all, marks.as_slice())?;
@@ -103,25 +100,23 @@ fn fold_function(
     Ok(folded)
 }
 
-/// As `fold`, by a table of the program's globals, which can be made once for all functions.
+/// As `fold`, by the tables of the program, which can be made once for all functions.
 ///
 /// Err is want of memory.
 pub fn fold_in(
     alloc: Global,
-    program: &Checked,
-    globals: &NamedGlobals,
+    tables: &ProgramTables,
     function: u32,
     values: &BodyValues,
 ) -> Result<Function, OutOfMemory>
-    requires named { globals.now ≡ program.now.program.globals }
-    requires globals { length program.now.program.globals < 2 ^ 32 }
-    requires size { size_of_program program.now.program < 2 ^ 32 }
-    requires values { WereFound program.now.program function values.now }
-    ensures { IfOk result (IsFoldOf program.now.program function values.now) }
+    requires globals { length tables.now.program.globals < 2 ^ 32 }
+    requires size { size_of_program tables.now.program < 2 ^ 32 }
+    requires values { WereFound tables.now.program function values.now }
+    ensures { IfOk result (IsFoldOf tables.now.program function values.now) }
 {
-    let program = program.program();
+    let program = tables.program();
     let of = &program.functions.as_slice()[function as usize];
-    let folded = fold_function(alloc, program, globals, function, of, values)?;
+    let folded = fold_function(alloc, tables, function, of, values)?;
     Ok(folded)
 }
 
@@ -142,7 +137,8 @@ pub fn fold(
     requires values { WereFound program.now.program function values.now }
     ensures { IfOk result (IsFoldOf program.now.program function values.now) }
 {
-    let globals = NamedGlobals::new(alloc, program.program().globals.as_slice())?;
-    let folded = fold_in(alloc, program, &globals, function, values)?;
+    let limits = values.limits().copy()?;
+    let tables = ProgramTables::with(alloc, program, limits)?;
+    let folded = fold_in(alloc, &tables, function, values)?;
     Ok(folded)
 }

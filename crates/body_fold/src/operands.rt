@@ -1,9 +1,8 @@
 //! Operands with known constants put in.
 
-ghost use Rattle.std.specs.Prelude.{◌≡◌, IfOk, find};
+ghost use Rattle.std.specs.Prelude.{◌≡◌, IfOk};
 ghost use Rattle.std.specs.Option.{option_copied};
 ghost use Rattle.gimple_core.specs.Env.{named};
-ghost use Rattle.gimple_core.specs.Names.{same_name};
 ghost use Rattle.gimple_core.specs.Statements as check;
 ghost use Rattle.body_values.specs.Scenes.{Fit};
 ghost use Rattle.body_fold.specs.Fold.{constant_operand, constant_for, folded_operand, folded_left, folded_right, formals_of, folded_arguments, right_check};
@@ -12,8 +11,7 @@ ghost use Rattle.body_fold.specs.Putting.{put_in, argument_of};
 
 use crate::folder::Folder;
 use gimple_core::{
-    Cmp, Constant, Exact, Function, Listed, Op, Operand, Operands, OutOfMemory, Register, Scalar,
-    Text, same_name,
+    Cmp, Constant, Exact, Listed, Op, Operand, Operands, OutOfMemory, Register, Scalar, Text,
 };
 use value_domain::AbsVal;
 
@@ -22,12 +20,6 @@ use value_domain::AbsVal;
 pub(crate) struct Sides {
     pub(crate) left: Operand,
     pub(crate) right: Operand,
-}
-
-fn named_function<'a>(functions: &'a [Function], name: &Text) -> Option<&'a Function>
-    ensures { option_copied result ≡ find (λ f. same_name f.name name.now) functions.now }
-{
-    functions.iter().find(|f| same_name(&f.name, name))
 }
 
 impl<'a> Folder<'a> {
@@ -208,9 +200,10 @@ impl<'a> Folder<'a> {
 
     /// The formals of a function by name; of no function there are none.
     pub(crate) fn formals(&self, callee: &Text) -> &'a [Register]
+        requires folder { IsFolder self.now }
         ensures { result.now ≡ formals_of (named callee.now (folding_in self.now).names) }
     {
-        match named_function(self.scene.program.functions.as_slice(), callee) {
+        match self.tables.named_function(callee) {
             Some(function) => function.params.as_slice(),
             None => &[],
         }

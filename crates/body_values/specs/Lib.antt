@@ -13,6 +13,7 @@ pub mod PointRows
 pub mod Changed
 pub mod Found
 pub mod Setting
+pub mod Tabled
 pub mod Examples
 pub mod FoundWhere
 pub mod TopFacts

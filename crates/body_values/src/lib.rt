@@ -13,6 +13,7 @@ mod flow;
 mod laws;
 mod load_table;
 mod point_rows;
+mod program_tables;
 mod scene;
 #[cfg(test)]
 mod tests;
@@ -28,6 +29,7 @@ pub use facts::{AbsVals, Facts, LoadFact, LoadFacts};
 pub use few_branches::has_few_branches;
 pub use laws::{body_values_cross, values_found, values_hold};
 pub use load_table::LoadTable;
+pub use program_tables::ProgramTables;
 pub use scene::{Scene, offset_of, pointer, scalar_of};
 pub use tops::top_facts;
 pub use values::{BodyValues, values_in, values_of};

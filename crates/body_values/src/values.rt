@@ -19,13 +19,14 @@ use crate::entry::{entry_row, registers_of};
 use crate::facts::Facts;
 use crate::flow::ValueFlow;
 use crate::load_table::LoadTable;
+use crate::program_tables::ProgramTables;
 use crate::scene::Scene;
 use fix_engine::{Lifted, Rows, Solver};
 use gimple_core::{Block, Checked, Function, Listed, OutOfMemory, Params, Point, Program, Text};
 use name_tables::{NamedGlobals, NamedLocals, RegisterTable};
 use std::alloc::Global;
 use std::marker::Model;
-use value_domain::{AbsVal, Thresholds, thresholds_of};
+use value_domain::{AbsVal, Thresholds};
 
 /// The values of a function's registers at each of its points, and the thresholds that they were made with. They take
 /// the memory of one row a block and one value a statement; an answer goes through the statements before its point.
@@ -242,29 +243,27 @@ fn values_with<S: Solver>(
     })
 }
 
-/// As `values_of`, by a table of the program's globals, which can be made once for all functions.
+/// As `values_of`, by the tables of the program, which can be made once for all functions.
 ///
 /// Err is want of memory.
 pub fn values_in<S: Solver>(
     alloc: Global,
-    program: &Checked,
-    globals: &NamedGlobals,
+    tables: &ProgramTables,
     function: u32,
     facts: &Facts,
     solver: &mut S,
-    limits: &Params,
 ) -> Result<BodyValues, OutOfMemory>
-    requires named { globals.now ≡ program.now.program.globals }
-    requires function { function < length program.now.program.functions }
-    requires globals { length program.now.program.globals < 2 ^ 32 }
-    requires size { size_of_program program.now.program < 2 ^ 32 }
-    requires branches { OfFunction program.now.program function (λ f. length (branches_of f.blocks) < 2 ^ 32) }
-    requires facts { OfFunction program.now.program function (λ f. FactsFit f facts.now limits.now.ipa_cp_value_list_size (thresholds_list program.now.program)) }
-    ensures values { IfOk result (λ v. OfFunction program.now.program function (λ f. AreFound program.now.program function f facts.now (record { size = limits.now.ipa_cp_value_list_size; ends = thresholds_list program.now.program }) v)) }
-    ensures found { IfOk result (WereFound program.now.program function) }
+    requires function { function < length tables.now.program.functions }
+    requires globals { length tables.now.program.globals < 2 ^ 32 }
+    requires size { size_of_program tables.now.program < 2 ^ 32 }
+    requires branches { OfFunction tables.now.program function (λ f. length (branches_of f.blocks) < 2 ^ 32) }
+    requires facts { OfFunction tables.now.program function (λ f. FactsFit f facts.now tables.now.size (thresholds_list tables.now.program)) }
+    ensures values { IfOk result (λ v. OfFunction tables.now.program function (λ f. AreFound tables.now.program function f facts.now (record { size = tables.now.size; ends = thresholds_list tables.now.program }) v)) }
+    ensures found { IfOk result (WereFound tables.now.program function) }
 {
-    let thresholds = thresholds_of(alloc, program, limits)?;
-    let program = program.program();
+    let thresholds = tables.thresholds()?;
+    let program = tables.program();
+    let globals = tables.globals();
     let of = &program.functions.as_slice()[function as usize];
     let values = values_with(
         alloc, program, globals, function, of, facts, thresholds, solver,
@@ -291,7 +290,7 @@ pub fn values_of<S: Solver>(
     ensures values { IfOk result (λ v. OfFunction program.now.program function (λ f. AreFound program.now.program function f facts.now (record { size = limits.now.ipa_cp_value_list_size; ends = thresholds_list program.now.program }) v)) }
     ensures found { IfOk result (WereFound program.now.program function) }
 {
-    let globals = NamedGlobals::new(alloc, program.program().globals.as_slice())?;
-    let values = values_in(alloc, program, &globals, function, facts, solver, limits)?;
+    let tables = ProgramTables::new(alloc, program, limits)?;
+    let values = values_in(alloc, &tables, function, facts, solver)?;
     Ok(values)
 }

@@ -5,6 +5,7 @@ ghost use Rattle.value_domain.specs.RangeOperators.{floor_of, ceiling_of, rounde
 ghost use Rattle.value_domain.specs.Thresholds.{Limits, IsLawful};
 
 use crate::range::Range;
+use gimple_core::OutOfMemory;
 use std::marker::Model;
 
 const LOWEST: i128 = -0x8000_0000_0000_0000;
@@ -103,6 +104,17 @@ impl Thresholds {
         ensures { result ≡ self.now.size }
     {
         self.limit
+    }
+
+    /// A copy. Err is want of memory.
+    pub fn copy(&self) -> Result<Thresholds, OutOfMemory>
+        ensures { IfOk result (λ t. t ≡ self.now) }
+    {
+        let ends = self.ends.clone()?;
+        Ok(Thresholds {
+            limit: self.limit,
+            ends,
+        })
     }
 
     /// The thresholds are those that the operators ask for.

@@ -2,19 +2,17 @@ use Rattle.std.proofs.Common.{◌≡◌, ◌<◌, List, length, sym, ◌∙◌, 
 use Rattle.gimple_ir.specs.declared.program.Function.{Function}
 use Rattle.gimple_ir.specs.declared.program.Program.{Program}
 use Rattle.body_values.proofs.Settled.{numbered}
-use Rattle.body_fold.specs.Settings.{IsFoldable}
 use Rattle.body_fold.proofs.Foldable.{number_within, foldable}
 use Rattle.body_fold.proofs.folding.fold_in.Goals as goal
 
 pub bounds-as_slice-function : goal.bounds-as_slice-function
 bounds-as_slice-function c =
-    let within : c.args.function < length c.args.program.now.program.functions = number_within c.args.program.now.program c.args.function c.args.values.now c.requires.values in
+    let within : c.args.function < length c.args.tables.now.program.functions = number_within c.args.tables.now.program c.args.function c.args.values.now c.requires.values in
     subst (λ (fs : List Function). c.args.function < length fs) (sym (c.as_slice.ensures ∙ ap (λ (p : Program). p.functions) c.program-program.ensures.same)) within
 
 pub fold_function-requires-clause-foldable : goal.fold_function-requires-clause-foldable
 fold_function-requires-clause-foldable c =
-    let within : c.args.function < length c.args.program.now.program.functions = number_within c.args.program.now.program c.args.function c.args.values.now c.requires.values in
-    let there : slice_get c.args.program.now.program.functions c.args.function ≡ Some c.index-as_slice-function.result =
-    numbered c.program-program.result.now c.args.program.now.program c.as_slice.result.now c.args.function c.index-as_slice-function.result c.program-program.ensures.same c.as_slice.ensures within c.index-as_slice-function.is in
-    subst (λ p. IsFoldable p c.args.function c.index-as_slice-function.result c.args.values.now) (sym c.program-program.ensures.same)
-    (foldable c.args.program.now.program c.args.function c.index-as_slice-function.result c.args.values.now there c.program-program.ensures.accepted c.requires.globals c.requires.size c.requires.values)
+    let within : c.args.function < length c.args.tables.now.program.functions = number_within c.args.tables.now.program c.args.function c.args.values.now c.requires.values in
+    let there : slice_get c.args.tables.now.program.functions c.args.function ≡ Some c.index-as_slice-function.result =
+    numbered c.program-program.result.now c.args.tables.now.program c.as_slice.result.now c.args.function c.index-as_slice-function.result c.program-program.ensures.same c.as_slice.ensures within c.index-as_slice-function.is in
+    foldable c.args.tables.now.program c.args.function c.index-as_slice-function.result c.args.values.now there c.program-program.ensures.accepted c.requires.globals c.requires.size c.requires.values

@@ -6,26 +6,26 @@ use Rattle.body_values.proofs.values.values_in.Goals as goal
 
 pub values_with-requires-clause-given : goal.values_with-requires-clause-given
 values_with-requires-clause-given g c =
-    let there : slice_get c.args.program.now.program.functions c.args.function ≡ Some c.index-as_slice-function.result =
-    numbered c.program-program.result.now c.args.program.now.program c.as_slice.result.now c.args.function c.index-as_slice-function.result c.program-program.ensures.same c.as_slice.ensures c.requires.function c.index-as_slice-function.is in
+    let there : slice_get c.args.tables.now.program.functions c.args.function ≡ Some c.index-as_slice-function.result =
+    numbered c.program-program.result.now c.args.tables.now.program c.as_slice.result.now c.args.function c.index-as_slice-function.result c.program-program.ensures.same c.as_slice.ensures c.requires.function c.index-as_slice-function.is in
     subst (λ q. IsGiven q c.index-as_slice-function.result c.args.facts.now c.in_ok-thresholds.thresholds) (sym c.program-program.ensures.same)
-    (given_by c.args.program.now.program c.args.function c.index-as_slice-function.result c.args.facts.now c.args.limits.now.ipa_cp_value_list_size c.in_ok-thresholds.thresholds there
+    (given_by c.args.tables.now.program c.args.function c.index-as_slice-function.result c.args.facts.now c.args.tables.now.size c.in_ok-thresholds.thresholds there
     c.program-program.ensures.accepted c.requires.globals c.requires.size c.requires.branches c.requires.facts c.in_ok-thresholds.ensures.size c.in_ok-thresholds.ensures.ends)
 
 pub returns-clause-values : goal.returns-clause-values
 returns-clause-values g c =
-    let there : slice_get c.args.program.now.program.functions c.args.function ≡ Some c.index-as_slice-function.result =
-    numbered c.program-program.result.now c.args.program.now.program c.as_slice.result.now c.args.function c.index-as_slice-function.result c.program-program.ensures.same c.as_slice.ensures c.requires.function c.index-as_slice-function.is in
-    found_in c.args.program.now.program c.args.function c.index-as_slice-function.result c.args.facts.now c.args.limits.now.ipa_cp_value_list_size c.in_ok-thresholds.thresholds c.in_ok-values.values there
+    let there : slice_get c.args.tables.now.program.functions c.args.function ≡ Some c.index-as_slice-function.result =
+    numbered c.program-program.result.now c.args.tables.now.program c.as_slice.result.now c.args.function c.index-as_slice-function.result c.program-program.ensures.same c.as_slice.ensures c.requires.function c.index-as_slice-function.is in
+    found_in c.args.tables.now.program c.args.function c.index-as_slice-function.result c.args.facts.now c.args.tables.now.size c.in_ok-thresholds.thresholds c.in_ok-values.values there
     c.in_ok-thresholds.ensures.size c.in_ok-thresholds.ensures.ends
     (subst (λ q. AreFound q c.args.function c.index-as_slice-function.result c.args.facts.now c.in_ok-thresholds.thresholds c.in_ok-values.values) c.program-program.ensures.same c.in_ok-values.ensures)
 
 pub returns-clause-found : goal.returns-clause-found
 returns-clause-found g c =
-    let there : slice_get c.args.program.now.program.functions c.args.function ≡ Some c.index-as_slice-function.result =
-    numbered c.program-program.result.now c.args.program.now.program c.as_slice.result.now c.args.function c.index-as_slice-function.result c.program-program.ensures.same c.as_slice.ensures c.requires.function c.index-as_slice-function.is in
-    let given : IsGiven c.args.program.now.program c.index-as_slice-function.result c.args.facts.now c.in_ok-thresholds.thresholds =
-    given_by c.args.program.now.program c.args.function c.index-as_slice-function.result c.args.facts.now c.args.limits.now.ipa_cp_value_list_size c.in_ok-thresholds.thresholds there
+    let there : slice_get c.args.tables.now.program.functions c.args.function ≡ Some c.index-as_slice-function.result =
+    numbered c.program-program.result.now c.args.tables.now.program c.as_slice.result.now c.args.function c.index-as_slice-function.result c.program-program.ensures.same c.as_slice.ensures c.requires.function c.index-as_slice-function.is in
+    let given : IsGiven c.args.tables.now.program c.index-as_slice-function.result c.args.facts.now c.in_ok-thresholds.thresholds =
+    given_by c.args.tables.now.program c.args.function c.index-as_slice-function.result c.args.facts.now c.args.tables.now.size c.in_ok-thresholds.thresholds there
     c.program-program.ensures.accepted c.requires.globals c.requires.size c.requires.branches c.requires.facts c.in_ok-thresholds.ensures.size c.in_ok-thresholds.ensures.ends in
-    were_found c.args.program.now.program c.args.function c.index-as_slice-function.result c.args.facts.now c.in_ok-thresholds.thresholds c.in_ok-values.values there given
+    were_found c.args.tables.now.program c.args.function c.index-as_slice-function.result c.args.facts.now c.in_ok-thresholds.thresholds c.in_ok-values.values there given
     (subst (λ q. AreFound q c.args.function c.index-as_slice-function.result c.args.facts.now c.in_ok-thresholds.thresholds c.in_ok-values.values) c.program-program.ensures.same c.in_ok-values.ensures)

@@ -1,0 +1,118 @@
+//! What is found in a program again and again, in tables.
+
+ghost use Rattle.std.specs.Prelude.{◌≡◌, IfOk, find, map, position};
+ghost use Rattle.std.specs.Option.{option_copied};
+ghost use Rattle.gimple_core.specs.Names.{same_name};
+ghost use Rattle.gimple_core.specs.Sealed.{IsAccepted};
+ghost use Rattle.value_domain.specs.Thresholds.{thresholds_list};
+
+use gimple_core::{Checked, Function, OutOfMemory, Params, Program, Text};
+use name_tables::{NamedGlobals, Names};
+use std::alloc::Global;
+use std::marker::Model;
+use value_domain::{Thresholds, thresholds_of};
+
+/// A program with its globals and functions by name and its thresholds, made once for all of its functions.
+#[derive(Drop)]
+pub struct ProgramTables<'a> {
+    program: &'a Checked,
+    globals: NamedGlobals<'a>,
+    functions: Names<'a>,
+    limits: Thresholds,
+}
+
+impl<'a> Model for ProgramTables<'a> {
+    ghost use Rattle.body_values.specs.Tabled.{Tabled, AreTables};
+
+    ghost Value = { Tabled };
+
+    ghost view = { λ t. record { program = t.program.now.program; size = t.limits.size } };
+
+    ghost invariant = { λ t. AreTables t.program.now.program t.globals t.functions t.limits.ends };
+}
+
+fn names_of<'a>(alloc: Global, functions: &'a [Function]) -> Result<Names<'a>, OutOfMemory>
+    ensures { IfOk result (λ names. names ≡ map (λ f. f.name) functions.now) }
+{
+    let mut names = Names::new(alloc);
+    for function in functions {
+        names.push(function.name.as_slice())?;
+    }
+    Ok(names)
+}
+
+impl<'a> ProgramTables<'a> {
+    /// The tables of a program, for lists of constants that are as long as the options say. It goes over the whole program.
+    /// Err is want of memory.
+    pub fn new(
+        alloc: Global,
+        program: &'a Checked,
+        limits: &Params,
+    ) -> Result<ProgramTables<'a>, OutOfMemory>
+        ensures { IfOk result (λ t. t ≡ record { program = program.now.program; size = limits.now.ipa_cp_value_list_size }) }
+    {
+        let thresholds = thresholds_of(alloc, program, limits)?;
+        let tables = ProgramTables::with(alloc, program, thresholds)?;
+        Ok(tables)
+    }
+
+    /// The tables of a program whose thresholds are known. Err is want of memory.
+    pub fn with(
+        alloc: Global,
+        program: &'a Checked,
+        limits: Thresholds,
+    ) -> Result<ProgramTables<'a>, OutOfMemory>
+        requires { limits.ends ≡ thresholds_list program.now.program }
+        ensures { IfOk result (λ t. t ≡ record { program = program.now.program; size = limits.size }) }
+    {
+        let inside = program.program();
+        let globals = NamedGlobals::new(alloc, inside.globals.as_slice())?;
+        let functions = names_of(alloc, inside.functions.as_slice())?;
+        Ok(ProgramTables {
+            program,
+            globals,
+            functions,
+            limits,
+        })
+    }
+
+    /// The program.
+    pub fn program(&self) -> &'a Program
+        ensures same { result.now ≡ self.now.program }
+        ensures accepted { IsAccepted self.now.program }
+    {
+        self.program.program()
+    }
+
+    /// The program's globals, each found by its name.
+    pub fn globals(&self) -> &NamedGlobals<'a>
+        ensures { result.now ≡ self.now.program.globals }
+    {
+        &self.globals
+    }
+
+    /// A copy of the thresholds. Err is want of memory.
+    pub(crate) fn thresholds(&self) -> Result<Thresholds, OutOfMemory>
+        ensures size { IfOk result (λ t. t.size ≡ self.now.size) }
+        ensures ends { IfOk result (λ t. t.ends ≡ thresholds_list self.now.program) }
+    {
+        let copy = self.limits.copy()?;
+        Ok(copy)
+    }
+
+    fn place(&self, name: &Text) -> Option<usize>
+        ensures { result ≡ position (λ f. same_name f.name name.now) self.now.program.functions }
+    {
+        self.functions.place(name.as_slice())
+    }
+
+    /// The first function of a name; None exactly where no function has it.
+    pub fn named_function(&self, name: &Text) -> Option<&'a Function>
+        ensures { option_copied result ≡ find (λ f. same_name f.name name.now) self.now.program.functions }
+    {
+        match self.place(name) {
+            Some(place) => self.program().functions.get(place),
+            None => None,
+        }
+    }
+}
