@@ -11,7 +11,7 @@ pub returns-in-Some : goal.returns-in-Some
 returns-in-Some c =
     let there : find (λ (f : Function). same_name f.name c.args.callee.now) c.args.self.now.tables.now.program.functions ≡ Some c.in-Some.function.now = search rules in
     let found = subst (λ (p : Program). find (λ (f : Function). same_name f.name c.args.callee.now) p.functions ≡ Some c.in-Some.function.now) c.requires.folder.tables there in
-    c.as_slice-in-Some.ensures ∙ sym (ap formals_of (named_find (λ (f : Function). f.name) c.args.callee.now c.args.self.now.scene.program.now.functions ∙ found))
+    c.as_slice.ensures ∙ sym (ap formals_of (named_find (λ (f : Function). f.name) c.args.callee.now c.args.self.now.scene.program.now.functions ∙ found))
 
 pub returns-in-None : goal.returns-in-None
 returns-in-None c =
