@@ -1,8 +1,7 @@
-"""The measurements of bench/run: time, speed, peak memory, and growth where the input doubles."""
+"""The measurements of bench/run: processor time, speed, peak memory, and growth where the input doubles."""
 import os
 import sys
 import tempfile
-import time
 
 MEGABYTE = 1 << 20
 
@@ -114,16 +113,30 @@ i32 main () {{
 """
 
 
+def registers_text(count):
+    """A loop over the last registers of a function that has many."""
+    declared = "".join(f"  i32 r{i};\n" for i in range(count))
+    last, other = f"r{count - 1}", f"r{count - 2}"
+    return f"""gimple 1;
+i32 main () {{
+{declared}  <bb 2>:
+    {last} = {last} + 1;
+    {other} = {other} - {last};
+    {other} = {other} + {last};
+    goto <bb 2>;
+}}
+"""
+
+
 def measured(words):
-    """Runs a command: seconds, peak memory in MB, status."""
-    began = time.monotonic()
+    """Runs a command: seconds of processor time, peak memory in MB, status."""
     child = os.fork()
     if child == 0:
         null = os.open(os.devnull, os.O_WRONLY)
         os.dup2(null, 1)
         os.execv(words[0], words)
     _, status, usage = os.wait4(child, 0)
-    return time.monotonic() - began, usage.ru_maxrss / 1024, os.waitstatus_to_exitcode(status)
+    return usage.ru_utime + usage.ru_stime, usage.ru_maxrss / 1024, os.waitstatus_to_exitcode(status)
 
 
 def row(name, amount, unit, seconds, peak, before):
@@ -158,7 +171,15 @@ def generated(tool, folder, counts):
 
 
 def runs(tool, folder, turns):
-    for name, text in (("loop", LOOP), ("calls", CALLS), ("memory, 16 slots", memory_text(16)), ("memory, 65536 slots", memory_text(65536))):
+    programs = (
+        ("loop", LOOP),
+        ("16 registers", registers_text(16)),
+        ("4096 registers", registers_text(4096)),
+        ("calls", CALLS),
+        ("memory, 16 slots", memory_text(16)),
+        ("memory, 65536 slots", memory_text(65536)),
+    )
+    for name, text in programs:
         before = 0
         for count in turns:
             path = os.path.join(folder, "a.g")
