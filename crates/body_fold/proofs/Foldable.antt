@@ -12,7 +12,7 @@ use Rattle.gimple_ir.specs.declared.program.Program.{Program}
 use Rattle.gimple_core.specs.Layout.{HasLayout}
 use Rattle.gimple_core.specs.Names.{same_name}
 use Rattle.gimple_core.specs.Sealed.{IsAccepted}
-use Rattle.gimple_core.specs.Size.{size_of_function, size_of_program}
+use Rattle.gimple_ir.specs.Size.{size_of_function, size_of_program}
 use Rattle.gimple_core.specs.Verdict.{at}
 use Rattle.gimple_core.specs.Env.{Env, functions_by_name, globals_by_name}
 use Rattle.gimple_core.specs.Declarations as d

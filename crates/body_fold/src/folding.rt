@@ -1,7 +1,7 @@
 //! A function with its known constants put in.
 
 ghost use Rattle.std.specs.Prelude.{◌≡◌, ◌++◌, ◌<◌, ◌^◌, [], length, IfOk, OnOk};
-ghost use Rattle.gimple_core.specs.Size.{size_of_program};
+ghost use Rattle.gimple_ir.specs.Size.{size_of_program};
 ghost use Rattle.body_values.specs.Setting.{WereFound};
 ghost use Rattle.body_fold.specs.Folders.{IsFoldOf};
 ghost use Rattle.body_fold.specs.Links.{unless_dropped, marked_blocks};

@@ -16,7 +16,7 @@ use Rattle.gimple_ir.specs.declared.program.Program.{Program}
 use Rattle.gimple_core.specs.Layout.{HasLayout}
 use Rattle.gimple_core.specs.Names.{same_name}
 use Rattle.gimple_core.specs.Sealed.{IsAccepted}
-use Rattle.gimple_core.specs.Size.{size_of_block, size_of_function, size_of_program}
+use Rattle.gimple_ir.specs.Size.{size_of_block, size_of_function, size_of_program}
 use Rattle.fix_engine.specs.Bools.{both}
 use Rattle.fix_engine.specs.Rows.{Each}
 use Rattle.fix_engine.specs.Least.{value_at}

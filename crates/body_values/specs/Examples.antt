@@ -11,7 +11,7 @@ use Rattle.gimple_ir.specs.declared.program.Function.{Function}
 use Rattle.gimple_ir.specs.declared.program.Program.{Program}
 use Rattle.gimple_core.specs.Run.{main_name}
 use Rattle.gimple_core.specs.Sealed.{IsAccepted}
-use Rattle.gimple_core.specs.Size.{size_of_program}
+use Rattle.gimple_ir.specs.Size.{size_of_program}
 use Rattle.body_values.specs.Flow.{branches_of}
 use Rattle.body_values.specs.Found.{OfFunction}
 

@@ -2,7 +2,7 @@
 
 ghost use Rattle.std.specs.Prelude.{◌≡◌, ◌+◌, ◌<◌, ◌^◌, length, true, IfOk, OnOk, OnErr};
 ghost use Rattle.std.specs.Option.{option_copied};
-ghost use Rattle.gimple_core.specs.Size.{size_of_program};
+ghost use Rattle.gimple_ir.specs.Size.{size_of_program};
 ghost use Rattle.value_domain.specs.Thresholds.{thresholds_list};
 ghost use Rattle.body_values.specs.Fitting.{file_by};
 ghost use Rattle.body_values.specs.Flow.{branches_of};

@@ -4,7 +4,7 @@ use Rattle.std.specs.Prelude.{sum_by}
 use Rattle.std.proofs.lemmas.List.Filters.{sum_by-filter_both}
 use Rattle.gimple_ir.specs.declared.program.Function.{Function}
 use Rattle.gimple_ir.specs.declared.program.Program.{Program}
-use Rattle.gimple_core.specs.Size.{size_of_function}
+use Rattle.gimple_ir.specs.Size.{size_of_function}
 use Rattle.gimple_core.specs.Reach.{IsReached, IsWithoutUnreached}
 use Rattle.call_graph.specs.Calls.{number_in, names_of, CallsStand}
 use Rattle.call_graph.specs.Reached.{AreReached}

@@ -2,7 +2,7 @@
 use Rattle.std.proofs.Common.{◌≤◌, List, [], ◌∷◌, length, sum_by, arith}
 use Rattle.std.proofs.lemmas.List.Sums.{sum_by-cons}
 use Rattle.gimple_ir.specs.declared.block.Block.{Block}
-use Rattle.gimple_core.specs.Size.{size_of_block}
+use Rattle.gimple_ir.specs.Size.{size_of_block}
 
 -- there are at most as many blocks as statements, ends included
 pub many_blocks : (bs : List Block) → length bs ≤ sum_by size_of_block bs

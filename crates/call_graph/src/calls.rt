@@ -1,7 +1,7 @@
 //! The edges of the call graph.
 
 ghost use Rattle.std.specs.Prelude.{◌≡◌, ◌<◌, ◌++◌, ◌∷◌, ◌^◌, length, sum_by, OnOk, IfOk};
-ghost use Rattle.gimple_core.specs.Size.{size_of_block, size_of_function, size_of_program};
+ghost use Rattle.gimple_ir.specs.Size.{size_of_block, size_of_function, size_of_program};
 ghost use Rattle.gimple_core.specs.Run.{call_of};
 ghost use Rattle.call_graph.specs.Calls.{call_edges, body_edges, block_edges, function_edges, edges_of};
 

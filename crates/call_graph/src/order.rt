@@ -1,7 +1,7 @@
 //! The strong components of a call graph, callees first.
 
 ghost use Rattle.std.specs.Prelude.{◌≡◌, ◌<◌, ◌^◌, Contains, IfOk, length};
-ghost use Rattle.gimple_core.specs.Size.{size_of_program};
+ghost use Rattle.gimple_ir.specs.Size.{size_of_program};
 ghost use Rattle.call_graph.specs.Calls.{callees_in, callees_of};
 ghost use Rattle.call_graph.specs.Firsts.{AreFirsts};
 ghost use Rattle.call_graph.specs.Graph.{IsOrder, OrderIsOne};

@@ -3,7 +3,7 @@
 ghost use Rattle.std.specs.Prelude.{◌≡◌, ℕ, ℤ, ◌<◌, ◌≤◌, ◌^◌, ◌++◌, List, [], length, IfOk, OnOk};
 ghost use Rattle.gimple_core.specs.Reach.{IsWithoutUnreached};
 ghost use Rattle.gimple_core.specs.Run.{Run};
-ghost use Rattle.gimple_core.specs.Size.{size_of_program};
+ghost use Rattle.gimple_ir.specs.Size.{size_of_program};
 ghost use Rattle.call_graph.specs.Reached.{AreReached, marked, unless_dropped};
 
 use crate::names::main_number;

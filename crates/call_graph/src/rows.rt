@@ -2,7 +2,7 @@
 
 ghost use Rattle.std.specs.Prelude.{◌≡◌, ℕ, ◌<◌, ◌^◌, [], ◌∷◌, ◌++◌, length, slice_set, IfOk, OnOk};
 ghost use Rattle.std.specs.List.{Contains};
-ghost use Rattle.gimple_core.specs.Size.{size_of_program};
+ghost use Rattle.gimple_ir.specs.Size.{size_of_program};
 ghost use Rattle.call_graph.specs.Calls.{callees_in, callees_of};
 ghost use Rattle.call_graph.specs.Walk.{listed, row_at};
 

@@ -1,7 +1,7 @@
 //! A program with one function folded by its values from top facts.
 
 ghost use Rattle.std.specs.Prelude.{◌<◌, ◌≤◌, length, IfOk, IfSome};
-ghost use Rattle.gimple_types.specs.Counts.{IsCountable};
+ghost use Rattle.gimple_ir.specs.Counts.{IsCountable};
 
 use body_fold::fold;
 use body_values::{has_few_branches, top_facts, values_of};

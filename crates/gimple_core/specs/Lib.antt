@@ -1,5 +1,4 @@
 pub mod Names
-pub mod Size
 pub mod Operators
 pub mod Layout
 pub mod Memory

@@ -1,7 +1,7 @@
 //! How large functions and programs are.
 
 ghost use Rattle.std.specs.Prelude.{ℕ, ◌≡◌, ◌<◌, ◌^◌};
-ghost use Rattle.gimple_core.specs.Size.{size_of_function, size_of_program};
+ghost use Rattle.gimple_ir.specs.Size.{size_of_function, size_of_program};
 
 use gimple_ir::{Function, Program};
 

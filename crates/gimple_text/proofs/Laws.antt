@@ -7,7 +7,7 @@ use Rattle.gimple_tokens.proofs.Real.{lexed_real}
 use Rattle.token_law.proofs.ReadsExactly.{test_cases}
 use Rattle.gimple_text.specs.Parse.{Spells}
 use Rattle.gimple_text.specs.Canon.{canon, AllOf, IsSpellable, IsSpellableFunction}
-use Rattle.gimple_text.specs.CanonLaws.{SpellableHasText}
+use Rattle.gimple_text.specs.CanonLaws.{SpellableHasText, DroppingKeepsTexts}
 use Rattle.gimple_text.proofs.CanonTokens.{program_tokens}
 use Rattle.gimple_text.proofs.CanonLexes.{canon_lexes}
 use Rattle.gimple_text.proofs.CanonSpelled.{program_spelled}
@@ -29,3 +29,8 @@ filtered_all P keeps (x ∷ xs) h = elim (test_cases (keeps x)) [ inl e ↦ rw e
 -- dropping functions keeps a text
 pub filtered_spellable : (p : Program) (keeps : Function → Bool) → IsSpellable p → IsSpellable (record p { functions = filter keeps p.functions })
 filtered_spellable p keeps h = record { structs = h.structs; globals = h.globals; functions = filtered_all IsSpellableFunction keeps p.functions h.functions }
+
+pub dropping_keeps_texts : DroppingKeepsTexts
+dropping_keeps_texts p keeps h =
+    let q = record p { functions = filter keeps p.functions } in
+    (canon q, canon_spells q (filtered_spellable p keeps (spelled_spellable h.0 p h.1)))

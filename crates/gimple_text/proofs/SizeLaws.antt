@@ -1,5 +1,5 @@
 -- A program has no more parts than its text has bytes.
-use Rattle.std.proofs.Common.{◌≡◌, ℕ, ◌+◌, ◌≤◌, List, [], ◌∷◌, length, sum_by, false, refl, None, Some, ap, arith, length-append}
+use Rattle.std.proofs.Common.{◌≡◌, ℕ, ◌+◌, ◌≤◌, ◌<◌, ◌^◌, List, [], ◌∷◌, length, sum_by, false, refl, None, Some, Result, Ok, Err, IfOk, ap, arith, length-append}
 use Rattle.std.proofs.lemmas.List.Sums.{sum_by-cons}
 use Rattle.gimple_ir.specs.declared.statement.Stmt.{Stmt}
 use Rattle.gimple_ir.specs.declared.block.End.{End}
@@ -10,35 +10,30 @@ use Rattle.gimple_ir.specs.declared.declarations.StructDef.{StructDef}
 use Rattle.gimple_ir.specs.declared.declarations.Global.{Global}
 use Rattle.gimple_ir.specs.declared.program.Function.{Function}
 use Rattle.gimple_ir.specs.declared.program.Program.{Program}
+use Rattle.gimple_ir.specs.Size.{size_of_block, size_of_function}
+use Rattle.gimple_ir.specs.Counts.{AreNarrow, IsCountable}
 use Rattle.gimple_tokens.specs.declared.token.Token.{Token}
 use Rattle.gimple_tokens.specs.Lexing.{Bytes, LexesFrom, skip}
 use Rattle.gimple_tokens.proofs.Runs.{shorter, skip_length}
 use Rattle.token_law.specs.Reading.{Tokens}
 use Rattle.token_law.specs.Languages.{IsMany}
 use Rattle.gimple_grammar.specs.Grammar.{IsStmt, IsEnd, IsBlock, IsField, IsStruct, IsGlobal, IsFunction, IsProgram}
+use Rattle.gimple_text.specs.declared.fault.TextFault.{TextFault}
 use Rattle.gimple_text.specs.Parse.{Spells}
 
 -- ---- measures
 
--- a block's statements, and its end
-abbrev pub parts_of_block : Block → ℕ
-parts_of_block b = length b.body + 1
-
--- those of a function
-abbrev pub parts_of_function : Function → ℕ
-parts_of_function f = sum_by parts_of_block f.blocks
-
 -- a struct's fields, and one for the struct
-abbrev pub width : StructDef → ℕ
+abbrev width : StructDef → ℕ
 width x = 1 + length x.fields
 
 -- a function's statements and ends, and one for the function
 abbrev weight : Function → ℕ
-weight f = 1 + parts_of_function f
+weight f = 1 + size_of_function f
 
 -- the parts of a program: its structs and their fields, its globals, and its functions and their statements and ends
 abbrev pub parts_of_program : Program → ℕ
-parts_of_program p = sum_by width p.structs + (length p.globals + (length p.functions + sum_by parts_of_function p.functions))
+parts_of_program p = sum_by width p.structs + (length p.globals + (length p.functions + sum_by size_of_function p.functions))
 
 -- ---- the tokens of each part
 
@@ -61,7 +56,7 @@ end_size (Switch on cases other) ts h = omega (arith, ap length h.4)
 end_size (Return None) ts h = omega (arith, ap length h)
 end_size (Return (Some o)) ts h = omega (arith, ap length h.2)
 
-block_size : (b : Block) (ts : Tokens) → IsBlock b ts → parts_of_block b ≤ length ts
+block_size : (b : Block) (ts : Tokens) → IsBlock b ts → size_of_block b ≤ length ts
 block_size b ts h =
     omega (arith, many_size IsStmt (λ _. 1) stmt_size b.body h.0 h.2, counted b.body, end_size b.end h.1 h.3, simp length-append at (ap length h.4))
 
@@ -75,13 +70,13 @@ global_size : (g : Global) (ts : Tokens) → IsGlobal g ts → 1 ≤ length ts
 global_size g ts h = omega (arith, ap length h.2)
 
 function_size : (f : Function) (ts : Tokens) → IsFunction f ts → weight f ≤ length ts
-function_size f ts h = omega (arith, many_size IsBlock parts_of_block block_size f.blocks h.4 h.9, simp length-append at (ap length h.10))
+function_size f ts h = omega (arith, many_size IsBlock size_of_block block_size f.blocks h.4 h.9, simp length-append at (ap length h.10))
 
-weights : (fs : List Function) → sum_by weight fs ≡ length fs + sum_by parts_of_function fs
+weights : (fs : List Function) → sum_by weight fs ≡ length fs + sum_by size_of_function fs
 weights [] = refl
-weights (f ∷ fs) = omega (arith, sum_by-cons weight f fs, sum_by-cons parts_of_function f fs, weights fs)
+weights (f ∷ fs) = omega (arith, sum_by-cons weight f fs, sum_by-cons size_of_function f fs, weights fs)
 
-pub widths : (xs : List StructDef) → length xs ≤ sum_by width xs
+widths : (xs : List StructDef) → length xs ≤ sum_by width xs
 widths [] = omega arith
 widths (x ∷ xs) = omega (arith, sum_by-cons width x xs, widths xs)
 
@@ -97,9 +92,31 @@ tokens_size p ts h = omega (
 )
 
 -- each token is a byte or more
-pub lexed_from : (bs : Bytes) (ts : List Token) → LexesFrom bs ts → length ts ≤ length bs
+lexed_from : (bs : Bytes) (ts : List Token) → LexesFrom bs ts → length ts ≤ length bs
 lexed_from bs [] h = omega arith
 lexed_from bs (t ∷ ts) h = omega (arith, shorter bs t h.0 h.1, lexed_from (skip false h.0) ts h.2)
 
-pub spelled_size : (bs : Bytes) (p : Program) → Spells bs p → parts_of_program p ≤ length bs
+spelled_size : (bs : Bytes) (p : Program) → Spells bs p → parts_of_program p ≤ length bs
 spelled_size bs p h = omega (arith, tokens_size p h.tokens h.spelled, lexed_from (skip false bs) h.tokens h.lexed, skip_length false bs)
+
+-- ---- counts
+
+narrow : (xs : List StructDef) → sum_by width xs < 2 ^ 32 → AreNarrow xs
+narrow [] h = tt
+narrow (x ∷ xs) h = let e = sum_by-cons width x xs in (omega (arith, e), narrow xs (omega (arith, e)))
+
+-- what a text of fewer than 2^32 bytes spells can be counted
+pub countable : (bs : Bytes) (p : Program) → Spells bs p → length bs < 2 ^ 32 → IsCountable p
+countable bs p h k =
+    let s = spelled_size bs p h in
+    record {
+      structs = omega (arith, widths p.structs);
+      fields = narrow p.structs (omega arith);
+      globals = omega arith;
+      functions = omega arith;
+      size = omega arith;
+    }
+
+pub countable_result : (bs : Bytes) (r : Result Program TextFault) → length bs < 2 ^ 32 → IfOk r (λ p. Spells bs p) → IfOk r IsCountable
+countable_result bs (Ok p) k h = countable bs p h k
+countable_result bs (Err e) k h = tt

@@ -1,5 +1,6 @@
 -- Laws of the canonical text.
-use Rattle.std.specs.Prelude.{◌↔◌}
+use Rattle.std.specs.Prelude.{◌↔◌, Bool, filter}
+use Rattle.gimple_ir.specs.declared.program.Function.{Function}
 use Rattle.gimple_ir.specs.declared.program.Program.{Program}
 use Rattle.gimple_tokens.specs.Lexing.{Bytes}
 use Rattle.gimple_text.specs.Parse.{Spells}
@@ -15,3 +16,7 @@ HasText p = (bs : Bytes) × Spells bs p
 
 abbrev pub SpellableHasText : Type 0
 SpellableHasText = (p : Program) → IsSpellable p ↔ HasText p
+
+-- a program that some text spells has a text without any of its functions
+abbrev pub DroppingKeepsTexts : Type 0
+DroppingKeepsTexts = (p : Program) (keeps : Function → Bool) → HasText p → HasText (record p { functions = filter keeps p.functions })

@@ -4,7 +4,7 @@ ghost use Rattle.std.specs.Prelude.{◌≡◌, ◌++◌, OnOk, IfOk};
 ghost use Rattle.std.specs.List.{flat_map};
 ghost use Rattle.std.specs.Fmt.{decimal, signed_decimal};
 ghost use Rattle.gimple_text.specs.Canon as spec;
-ghost use Rattle.gimple_text.specs.CanonLaws.{CanonSpells, SpellableHasText};
+ghost use Rattle.gimple_text.specs.CanonLaws.{CanonSpells, SpellableHasText, DroppingKeepsTexts};
 
 use gimple_ir::{
     Base, Block, Case, Cmp, Decl, End, Function, Global, Op, Operand, OutOfMemory, Place, Program,
@@ -606,4 +606,9 @@ pub fn canon_spells()
 /// A program is spellable exactly where some text spells it.
 pub fn spellable_has_text()
     ensures { SpellableHasText }
+{}
+
+/// A program that some text spells has a text without any of its functions.
+pub fn dropping_keeps_texts()
+    ensures { DroppingKeepsTexts }
 {}

@@ -2,8 +2,8 @@
 use Rattle.std.proofs.Common.{◌<◌, ◌^◌, List, [], ◌∷◌, sum_by, arith}
 use Rattle.std.proofs.lemmas.List.Sums.{sum_by-cons}
 use Rattle.gimple_ir.specs.declared.program.Function.{Function}
-use Rattle.gimple_core.specs.Size.{size_of_function}
-use Rattle.gimple_types.specs.Counts.{AreShort}
+use Rattle.gimple_ir.specs.Size.{size_of_function}
+use Rattle.gimple_ir.specs.Counts.{AreShort}
 
 -- each of them has fewer than 2^32 statements
 pub are_short : (fs : List Function) → sum_by size_of_function fs < 2 ^ 32 → AreShort fs

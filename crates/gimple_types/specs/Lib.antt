@@ -1,5 +1,4 @@
 pub mod Tables
 pub mod Verdicts
 pub mod Sizes
-pub mod Counts
 pub mod Seen

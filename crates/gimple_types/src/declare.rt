@@ -2,11 +2,11 @@
 
 ghost use Rattle.std.specs.Prelude.{◌≡◌, [], ◌∷◌, ◌++◌, ◌+◌, ◌<◌, ◌≤◌, ◌^◌, length, OnOk};
 ghost use Rattle.std.specs.List.{list_any};
-ghost use Rattle.gimple_core.specs.Size.{size_of_function};
+ghost use Rattle.gimple_ir.specs.Size.{size_of_function};
 ghost use Rattle.gimple_core.specs.Accepted.{known_env};
 ghost use Rattle.gimple_core.specs.Declarations as spec;
 ghost use Rattle.gimple_core.specs.Env.{has, globals_by_name, structs_by_name};
-ghost use Rattle.gimple_types.specs.Counts.{AreShort};
+ghost use Rattle.gimple_ir.specs.Counts.{AreShort};
 ghost use Rattle.gimple_types.specs.Seen.{seen};
 ghost use Rattle.gimple_types.specs.Verdicts.{Becomes, Finds, Judges};
 

@@ -2,7 +2,7 @@
 
 ghost use Rattle.std.specs.Prelude.{◌≡◌, None, IfOk, IfErr, OnOk};
 ghost use Rattle.gimple_core.specs.Accepted.{first_fault};
-ghost use Rattle.gimple_types.specs.Counts.{IsCountable};
+ghost use Rattle.gimple_ir.specs.Counts.{IsCountable};
 ghost use Rattle.gimple_types.specs.Verdicts.{Refuses};
 
 use crate::declare::{functions, heads, main_function};

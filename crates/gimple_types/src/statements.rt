@@ -2,7 +2,7 @@
 
 ghost use Rattle.std.specs.Prelude.{◌≡◌, [], ◌+◌, ◌<◌, ◌≤◌, ◌^◌, length, sum_by};
 ghost use Rattle.gimple_core.specs.Env as names;
-ghost use Rattle.gimple_core.specs.Size.{size_of_block};
+ghost use Rattle.gimple_ir.specs.Size.{size_of_block};
 ghost use Rattle.gimple_core.specs.Statements as spec;
 ghost use Rattle.gimple_types.specs.Seen.{env_of};
 ghost use Rattle.gimple_types.specs.Verdicts.{Becomes, Judges};

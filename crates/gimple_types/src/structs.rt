@@ -7,7 +7,7 @@ ghost use Rattle.gimple_core.specs.Layout.{empty_layout, with_fields, decl_layou
 ghost use Rattle.gimple_core.specs.Env.{has, structs_by_name};
 ghost use Rattle.gimple_core.specs.Statements.{has_slot};
 ghost use Rattle.gimple_core.specs.Declarations as spec;
-ghost use Rattle.gimple_types.specs.Counts.{AreNarrow};
+ghost use Rattle.gimple_ir.specs.Counts.{AreNarrow};
 ghost use Rattle.gimple_types.specs.Sizes.{extent_of, extent_with, field_start, field_starts, first_layouts, scalar_at, slots_before, AreAmong, AreSmall, IsFieldFrom, IsFirst, LeadsTo, NumberLeadsTo};
 ghost use Rattle.gimple_types.specs.Verdicts.{Becomes, Judges};
 

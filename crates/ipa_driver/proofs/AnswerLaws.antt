@@ -1,5 +1,5 @@
 -- Laws of the answers of a run.
-use Rattle.std.proofs.Common.{◌≡◌, ◌⊎◌, inl, inr, ℕ, ◌+◌, ◌-◌, ◌≤◌, List, length, take, Option, Some, None, Result, Ok, Err, MatchResult, refl, sym, ◌∙◌, subst}
+use Rattle.std.proofs.Common.{◌≡◌, ◌⊎◌, inl, inr, ℕ, ◌+◌, ◌-◌, ◌≤◌, List, length, take, Option, Some, None, Result, Ok, Err, MatchResult, refl, sym, ◌∙◌, subst, arith}
 use Rattle.std.specs.Option.{IsSomeAnd, IfSome}
 use Rattle.shelf.specs.Outside.{Meaning, Contents, at_name, Rose, RoseBy, OnSource, LacksSource, Appends, IsToldCut}
 use Rattle.words.specs.declared.options.SourceName.{SourceName}
@@ -10,7 +10,7 @@ use Rattle.gimple_text.specs.declared.fault.TextFault.{TextFault}
 use Rattle.gimple_text.specs.declared.fault.TextFault.TheVariants.{BadByte, BadToken, EarlyEnd, Memory as TextMemory}
 use Rattle.gimple_text.specs.Parse.{TextFaultOf}
 use Rattle.gimple_text.proofs.Laws.{spelled_spellable}
-use Rattle.ipa_driver.proofs.SizeLaws.{countable}
+use Rattle.gimple_text.proofs.SizeLaws.{countable}
 use Rattle.ipa_driver.proofs.LocalLaws.{few_locals}
 use Rattle.ipa_driver.specs.declared.tool.Tool.{Tool}
 use Rattle.ipa_driver.specs.declared.finish.Fault.{Fault}
@@ -42,7 +42,7 @@ pub judged : (words : List (List ℕ)) (source : SourceName) (old new : Meaning)
 judged words source old new text (Ok checked) l j = record {
   good = fetched (λ bytes. IsVerdict bytes (Good checked.program)) text j old.sources (bytes_of words (input_of source)) l.source;
   spellable = spelled_spellable text checked.program j.spelled;
-  countable = countable text checked.program j.spelled j.within;
+  countable = countable text checked.program j.spelled (omega (arith, j.within));
   locals = few_locals text checked.program j.spelled j.within;
   read = l.read;
 }

@@ -2,7 +2,7 @@
 use Rattle.std.specs.Prelude.{ℕ, List, ◌++◌, length, codes}
 use Rattle.std.specs.Fmt.{decimal}
 use Rattle.gimple_ir.specs.declared.program.Program.{Program}
-use Rattle.gimple_core.specs.Size.{size_of_program}
+use Rattle.gimple_ir.specs.Size.{size_of_program}
 use Rattle.ipa_driver.specs.declared.summary.Measure.{Measure}
 use Rattle.ipa_driver.specs.declared.summary.Counts.{Counts}
 

@@ -1,7 +1,7 @@
 //! The call graph of a program, as its dump shows it.
 
 ghost use Rattle.std.specs.Prelude.{◌≡◌, ◌<◌, ◌^◌, [], length, slice_index_or, IfOk};
-ghost use Rattle.gimple_core.specs.Size.{size_of_program};
+ghost use Rattle.gimple_ir.specs.Size.{size_of_program};
 ghost use Rattle.ipa_dumps.specs.Dumps.{Graph};
 ghost use Rattle.ipa_driver.specs.Graph.{IsGraphDump, IsGraphText};
 

@@ -1,7 +1,7 @@
 //! All passes over a program. Functions that `main` does not reach are dropped.
 
 ghost use Rattle.std.specs.Prelude.{◌≡◌, IfOk};
-ghost use Rattle.gimple_types.specs.Counts.{IsCountable};
+ghost use Rattle.gimple_ir.specs.Counts.{IsCountable};
 ghost use Rattle.ipa_driver.specs.Pipeline.{IsMade, bare_product};
 
 use crate::graph::graph_text;

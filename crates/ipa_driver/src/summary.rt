@@ -1,7 +1,7 @@
 //! The summary of a run.
 
 ghost use Rattle.std.specs.Prelude.{◌≡◌, ◌<◌, ◌^◌, ◌++◌, IfOk, OnOk};
-ghost use Rattle.gimple_core.specs.Size.{size_of_program};
+ghost use Rattle.gimple_ir.specs.Size.{size_of_program};
 ghost use Rattle.ipa_driver.specs.Summary.{measure_of, no_counts, measure_line, count_text, first_counts, middle_counts, last_counts, counts_line, summary_text};
 
 use crate::fault_texts::push_number;

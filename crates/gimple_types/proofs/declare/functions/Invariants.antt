@@ -1,7 +1,7 @@
 use Rattle.std.proofs.Common.{◌≡◌, ◌+◌, ◌<◌, ◌^◌, length}
 use Rattle.gimple_core.specs.Accepted.{known_env}
 use Rattle.gimple_core.specs.Declarations as spec
-use Rattle.gimple_types.specs.Counts.{AreShort}
+use Rattle.gimple_ir.specs.Counts.{AreShort}
 use Rattle.gimple_types.proofs.declare.functions.Given as goal
 
 abbrev pub invariant-loop-rest : goal.invariant-loop-rest

@@ -1,5 +1,5 @@
 use Rattle.std.proofs.Common.{◌≡◌, ◌+◌, ◌≤◌, ◌^◌, length, sum_by}
-use Rattle.gimple_core.specs.Size.{size_of_block}
+use Rattle.gimple_ir.specs.Size.{size_of_block}
 use Rattle.gimple_core.specs.Statements as spec
 use Rattle.gimple_types.specs.Seen.{env_of}
 use Rattle.gimple_types.proofs.statements.blocks.Given as goal

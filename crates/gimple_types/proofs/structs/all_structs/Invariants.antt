@@ -1,6 +1,6 @@
 use Rattle.std.proofs.Common.{◌≡◌, ◌+◌, ◌<◌, ◌^◌, [], ◌++◌, length}
 use Rattle.gimple_core.specs.Declarations as spec
-use Rattle.gimple_types.specs.Counts.{AreNarrow}
+use Rattle.gimple_ir.specs.Counts.{AreNarrow}
 use Rattle.gimple_types.proofs.structs.all_structs.Given as goal
 
 abbrev pub invariant-loop-rest : goal.invariant-loop-rest

@@ -3,7 +3,7 @@ use Rattle.std.specs.Prelude.{◌<◌, ◌^◌, List, [], ◌∷◌, length}
 use Rattle.gimple_ir.specs.declared.declarations.StructDef.{StructDef}
 use Rattle.gimple_ir.specs.declared.program.Function.{Function}
 use Rattle.gimple_ir.specs.declared.program.Program.{Program}
-use Rattle.gimple_core.specs.Size.{size_of_function, size_of_program}
+use Rattle.gimple_ir.specs.Size.{size_of_function, size_of_program}
 
 -- each function has fewer than 2^32 statements
 abbrev pub AreShort : List Function → Type 0
