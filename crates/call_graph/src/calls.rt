@@ -5,15 +5,16 @@ ghost use Rattle.gimple_ir.specs.Size.{size_of_block, size_of_function, size_of_
 ghost use Rattle.gimple_core.specs.Run.{call_of};
 ghost use Rattle.call_graph.specs.Calls.{call_edges, body_edges, block_edges, function_edges, edges_of};
 
-use crate::names::{FunctionNames, names_of};
+use crate::names::{names_of, number_of};
 use gimple_core::{Block, Checked, Edge, Edges, Function, OutOfMemory, Point, Stmt};
+use name_tables::Names;
 use std::alloc::Global as Heap;
 
 /// Puts the edge of a call behind the others.
 #[tactic(auto, using(crate::proofs::Naming::number_within))]
-fn push_call<'a>(
-    names: &FunctionNames<'a>,
-    statement: &'a Stmt,
+fn push_call(
+    names: &Names<'_>,
+    statement: &Stmt,
     point: Point,
     edges: &mut Edges,
 ) -> Result<(), OutOfMemory>
@@ -24,7 +25,7 @@ fn push_call<'a>(
         Stmt::Call { callee, .. } => edges.push(Edge {
             caller: point.function,
             point,
-            callee: names.number_of(callee.as_slice()) as u32,
+            callee: number_of(names, callee.as_slice()) as u32,
         }),
         _ => Ok(()),
     }
@@ -32,9 +33,9 @@ fn push_call<'a>(
 
 /// Puts the edges of a block's statements behind the others.
 #[tactic(auto, unfolding(crate::specs::Calls::body_edges))]
-fn push_body<'a>(
-    names: &FunctionNames<'a>,
-    body: &'a [Stmt],
+fn push_body(
+    names: &Names<'_>,
+    body: &[Stmt],
     function: u32,
     block: u32,
     edges: &mut Edges,
@@ -61,9 +62,9 @@ fn push_body<'a>(
 
 /// Puts the edges of a function's blocks behind the others.
 #[tactic(auto, using(crate::proofs::Sizes::many_blocks), unfolding(crate::specs::Calls::block_edges))]
-fn push_blocks<'a>(
-    names: &FunctionNames<'a>,
-    blocks: &'a [Block],
+fn push_blocks(
+    names: &Names<'_>,
+    blocks: &[Block],
     function: u32,
     edges: &mut Edges,
 ) -> Result<(), OutOfMemory>
@@ -79,9 +80,9 @@ fn push_blocks<'a>(
 
 /// Puts the edges of functions behind the others.
 #[tactic(auto, unfolding(crate::specs::Calls::function_edges))]
-fn push_functions<'a>(
-    names: &FunctionNames<'a>,
-    functions: &'a [Function],
+fn push_functions(
+    names: &Names<'_>,
+    functions: &[Function],
     edges: &mut Edges,
 ) -> Result<(), OutOfMemory>
     requires names { length names.now < 2 ^ 32 }

@@ -1,17 +1,9 @@
-use Rattle.std.proofs.Common.{◌++◌, List, map, sym, ◌∙◌, ap, subst}
+use Rattle.std.proofs.Common.{◌++◌, List, ◌∙◌, ap}
 use Rattle.gimple_ir.specs.declared.point.Edge.{Edge}
-use Rattle.gimple_ir.specs.declared.program.Function.{Function}
 use Rattle.gimple_ir.specs.declared.program.Program.{Program}
-use Rattle.call_graph.specs.Calls.{AreDistinct, function_edges}
+use Rattle.call_graph.specs.Calls.{function_edges}
 use Rattle.call_graph.proofs.Bridge.{edges_are}
-use Rattle.call_graph.proofs.Callees.{accepted_calls}
 use Rattle.call_graph.proofs.calls.edges.Goals as goal
-
-pub names_of-requires : goal.names_of-requires
-names_of-requires c =
-    let fs = c.as_slice-functions.ensures ∙ ap (λ (p : Program). p.functions) c.program.ensures.same in
-    let P : List Function → Type 0 = λ xs. AreDistinct (map (λ f. f.name) xs) in
-    subst P (sym fs) (accepted_calls c.args.program.now.program c.program.ensures.accepted).distinct
 
 pub returns : goal.returns
 returns c =
