@@ -1,9 +1,15 @@
 -- The branches of blocks, one after the other, and how many there are.
-use Rattle.std.proofs.Common.{◌≡◌, ℕ, zero, suc, ◌+◌, ◌<◌, ◌≤◌, ◌^◌, ◌==◌, List, [], ◌∷◌, ◌++◌, map, Option, Some, None, IfSome, length, length-append, append_assoc, drop, get_or, refl, sym, ◌∙◌, ap, arith}
+use Rattle.std.proofs.Common.{◌≡◌, ℕ, zero, suc, ◌+◌, ◌<◌, ◌≤◌, ◌^◌, ◌==◌, List, [], ◌∷◌, ◌++◌, map, sum_by, Option, Some, None, IfSome, length, length-append, append_assoc, drop, get_or, refl, sym, ◌∙◌, ap, arith}
 use Rattle.std.specs.List.{position}
 use Rattle.std.proofs.lemmas.List.Quantifiers.{position-Some}
-use Rattle.std.proofs.lemmas.List.{drop_more}
+use Rattle.std.proofs.lemmas.List.{drop_more, length-map}
+use Rattle.std.proofs.lemmas.List.Sums.{sum_by-cons}
+use Rattle.gimple_ir.specs.declared.block.Case.{Case}
+use Rattle.gimple_ir.specs.declared.block.End.{End}
+use Rattle.gimple_ir.specs.declared.block.End.TheVariants.{Goto, If, Switch, Return}
 use Rattle.gimple_ir.specs.declared.block.Block.{Block}
+use Rattle.gimple_ir.specs.declared.program.Function.{Function}
+use Rattle.gimple_ir.specs.Size.{branches_of_end, branches_of_function}
 use Rattle.gimple_core.specs.Run.{block_place, place_or}
 use Rattle.name_tables.proofs.Naming.{position_map}
 use Rattle.body_values.specs.declared.branches.Branch.{Branch}
@@ -12,6 +18,24 @@ use Rattle.body_values.specs.Flow.{labels_of, branches_to, branches_from, branch
 pub row_count : (all : List Block) (k slot : ℕ) (ls : List ℕ) → length (branches_to all k slot ls) ≡ length ls
 row_count all k slot [] = refl
 row_count all k slot (x ∷ ls) = ap suc (row_count all k (slot + 1) ls)
+
+label_count : (e : End) → length (labels_of e) ≡ branches_of_end e
+label_count (Goto target) = refl
+label_count (If left cmp right hit miss) = refl
+label_count (Switch on cases other) = length-append (map (λ (c : Case). c.target) cases) (other ∷ []) ∙ ap (λ n. n + 1) (length-map cases (λ (c : Case). c.target))
+label_count (Return value) = refl
+
+branch_count : (all : List Block) (k : ℕ) (bs : List Block) → length (branches_from all k bs) ≡ sum_by (λ (b : Block). branches_of_end b.end) bs
+branch_count all k [] = refl
+branch_count all k (b ∷ bs) =
+    let row = row_count all k 0 (labels_of b.end) in
+    let rest = branch_count all (k + 1) bs in
+    omega (arith, row, rest, label_count b.end, length-append (branches_to all k 0 (labels_of b.end)) (branches_from all (k + 1) bs), sum_by-cons (λ (b : Block). branches_of_end b.end) b bs)
+
+-- a function has as many branches as its ends lead out of blocks
+pub function_branches : (f : Function) → length (branches_of f.blocks) ≡ branches_of_function f
+unfolding branches_of
+function_branches f = branch_count f.blocks 0 f.blocks
 
 -- a block has no more branches than all of them
 labels_within : (all : List Block) (k i : ℕ) (bs : List Block) (b : Block) → i < length bs → b ≡ get_or bs i b → length (labels_of b.end) ≤ length (branches_from all k bs)

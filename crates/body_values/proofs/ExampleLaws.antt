@@ -7,7 +7,6 @@ use Rattle.gimple_core.specs.Statements as s
 use Rattle.gimple_core.specs.Declarations as d
 use Rattle.gimple_core.specs.Accepted.{checked, first_fault}
 use Rattle.body_values.specs.declared.facts.Facts.{Facts}
-use Rattle.body_values.specs.Flow.{branches_of}
 use Rattle.body_values.specs.Found.{OfFunction}
 use Rattle.body_values.specs.System.{FactsFit}
 use Rattle.body_values.specs.Examples.{IsExample, count_program, count_function}
@@ -16,12 +15,8 @@ count_accepted : first_fault count_program ≡ None
 unfolding first_fault checked d.structs d.globals d.heads d.head d.main d.functions d.one_function d.own d.registers d.register d.is_free d.locals d.labels d.new_label s.blocks s.body s.statement s.operand s.arith s.right_side s.compared s.common_scalar s.label s.ending s.returned e.scalar_of
 count_accepted = refl
 
-count_branches : length (branches_of count_function.blocks) < 2 ^ 32
-unfolding branches_of
-count_branches = omega arith
-
 pub count_is : IsExample count_program
-count_is = record { accepted = count_accepted; function = omega arith; globals = omega arith; size = omega arith; branches = count_branches; alone = refl }
+count_is = record { accepted = count_accepted; function = omega arith; globals = omega arith; size = omega arith; branches = omega arith; alone = refl }
 
 fit_by : (o : Option Function) (facts : Facts) (most : ℕ) (ts : List ℤ) → IsSomeAnd o (λ f. f.params ≡ []) → facts.formals ≡ [] → facts.loads ≡ [] → IsSomeAnd o (λ f. FactsFit f facts most ts)
 fit_by None facts most ts h f l = absurd h

@@ -16,4 +16,3 @@ pub mod GivenFirst
 pub mod ExampleLaws
 pub mod FoundWhereLaws
 pub mod TopFit
-pub mod FewBranches

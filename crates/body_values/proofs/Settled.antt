@@ -16,7 +16,7 @@ use Rattle.gimple_ir.specs.declared.program.Program.{Program}
 use Rattle.gimple_core.specs.Layout.{HasLayout}
 use Rattle.gimple_core.specs.Names.{same_name}
 use Rattle.gimple_core.specs.Sealed.{IsAccepted}
-use Rattle.gimple_ir.specs.Size.{size_of_block, size_of_function, size_of_program}
+use Rattle.gimple_ir.specs.Size.{size_of_block, size_of_function, size_of_program, branches_of_function}
 use Rattle.fix_engine.specs.Bools.{both}
 use Rattle.fix_engine.specs.Rows.{Each}
 use Rattle.fix_engine.specs.Least.{value_at}
@@ -41,6 +41,7 @@ use Rattle.body_values.specs.Scenes.{body_in, FitsIn}
 use Rattle.body_values.specs.Setting.{IsGiven, IsSceneBy, IsSceneOf, AreBegins, AreRows, WereFound}
 use Rattle.body_values.specs.System.{FactsFit, entry_fits}
 use Rattle.body_values.proofs.Flowing.{fits_in}
+use Rattle.body_values.proofs.BranchCounts.{function_branches}
 use Rattle.gimple_core.proofs.AcceptedLayouts.{global_layout}
 
 -- ---- what a flow carries
@@ -222,12 +223,12 @@ numbered q p fs n f e g l is =
     slice_get-get_or p.functions n f l ∙ ap Some (sym here)
 
 pub given_by : (p : Program) (n : ℕ) (f : Function) (facts : Facts) (most : ℕ) (limits : Limits) → slice_get p.functions n ≡ Some f → IsAccepted p → length p.globals < 2 ^ 32 → size_of_program p < 2 ^ 32 →
-    OfFunction p n (λ f. length (branches_of f.blocks) < 2 ^ 32) → OfFunction p n (λ f. FactsFit f facts most (thresholds_list p)) → limits.size ≡ most → limits.ends ≡ thresholds_list p → IsGiven p f facts limits
+    OfFunction p n (λ f. branches_of_function f < 2 ^ 32) → OfFunction p n (λ f. FactsFit f facts most (thresholds_list p)) → limits.size ≡ most → limits.ends ≡ thresholds_list p → IsGiven p f facts limits
 given_by p n f facts most limits e accepted globals size branches fit m ts = record {
   accepted = accepted;
   globals = globals;
   size = let w = function_within p.functions n f e in omega (arith, w, size);
-  branches = of_function (λ f. length (branches_of f.blocks) < 2 ^ 32) (slice_get p.functions n) f e branches;
+  branches = subst (λ k. k < 2 ^ 32) (sym (function_branches f)) (of_function (λ f. branches_of_function f < 2 ^ 32) (slice_get p.functions n) f e branches);
   ends = ts;
   fit = subst (λ us. FactsFit f facts limits.size us) (sym ts) (subst (λ k. FactsFit f facts k (thresholds_list p)) (sym m) (of_function (λ f. FactsFit f facts most (thresholds_list p)) (slice_get p.functions n) f e fit));
 }

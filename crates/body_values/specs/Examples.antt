@@ -11,8 +11,7 @@ use Rattle.gimple_ir.specs.declared.program.Function.{Function}
 use Rattle.gimple_ir.specs.declared.program.Program.{Program}
 use Rattle.gimple_core.specs.Run.{main_name}
 use Rattle.gimple_core.specs.Sealed.{IsAccepted}
-use Rattle.gimple_ir.specs.Size.{size_of_program}
-use Rattle.body_values.specs.Flow.{branches_of}
+use Rattle.gimple_ir.specs.Size.{size_of_program, branches_of_function}
 use Rattle.body_values.specs.Found.{OfFunction}
 
 abbrev pub i : List ℕ
@@ -47,5 +46,5 @@ pub record IsExample (p : Program) : Type 0 where
   pub function : 0 < length p.functions
   pub globals : length p.globals < 2 ^ 32
   pub size : size_of_program p < 2 ^ 32
-  pub branches : OfFunction p 0 (λ f. length (branches_of f.blocks) < 2 ^ 32)
+  pub branches : OfFunction p 0 (λ f. branches_of_function f < 2 ^ 32)
   pub alone : OfFunction p 0 (λ f. f.params ≡ [])

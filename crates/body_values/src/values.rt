@@ -2,7 +2,7 @@
 
 ghost use Rattle.std.specs.Prelude.{◌≡◌, ◌+◌, ◌<◌, ◌^◌, length, true, IfOk, OnOk, OnErr};
 ghost use Rattle.std.specs.Option.{option_copied};
-ghost use Rattle.gimple_ir.specs.Size.{size_of_program};
+ghost use Rattle.gimple_ir.specs.Size.{size_of_program, branches_of_function};
 ghost use Rattle.value_domain.specs.Thresholds.{thresholds_list};
 ghost use Rattle.body_values.specs.Fitting.{file_by};
 ghost use Rattle.body_values.specs.Flow.{branches_of};
@@ -256,7 +256,7 @@ pub fn values_in<S: Solver>(
     requires function { function < length tables.now.program.functions }
     requires globals { length tables.now.program.globals < 2 ^ 32 }
     requires size { size_of_program tables.now.program < 2 ^ 32 }
-    requires branches { OfFunction tables.now.program function (λ f. length (branches_of f.blocks) < 2 ^ 32) }
+    requires branches { OfFunction tables.now.program function (λ f. branches_of_function f < 2 ^ 32) }
     requires facts { OfFunction tables.now.program function (λ f. FactsFit f facts.now tables.now.size (thresholds_list tables.now.program)) }
     ensures values { IfOk result (λ v. OfFunction tables.now.program function (λ f. AreFound tables.now.program function f facts.now (record { size = tables.now.size; ends = thresholds_list tables.now.program }) v)) }
     ensures found { IfOk result (WereFound tables.now.program function) }
@@ -285,7 +285,7 @@ pub fn values_of<S: Solver>(
     requires function { function < length program.now.program.functions }
     requires globals { length program.now.program.globals < 2 ^ 32 }
     requires size { size_of_program program.now.program < 2 ^ 32 }
-    requires branches { OfFunction program.now.program function (λ f. length (branches_of f.blocks) < 2 ^ 32) }
+    requires branches { OfFunction program.now.program function (λ f. branches_of_function f < 2 ^ 32) }
     requires facts { OfFunction program.now.program function (λ f. FactsFit f facts.now limits.now.ipa_cp_value_list_size (thresholds_list program.now.program)) }
     ensures values { IfOk result (λ v. OfFunction program.now.program function (λ f. AreFound program.now.program function f facts.now (record { size = limits.now.ipa_cp_value_list_size; ends = thresholds_list program.now.program }) v)) }
     ensures found { IfOk result (WereFound program.now.program function) }

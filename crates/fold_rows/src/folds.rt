@@ -4,7 +4,7 @@ ghost use Rattle.std.specs.Prelude.{◌<◌, ◌≤◌, length, IfOk, IfSome};
 ghost use Rattle.gimple_ir.specs.Counts.{IsCountable};
 
 use body_fold::fold;
-use body_values::{has_few_branches, top_facts, values_of};
+use body_values::{top_facts, values_of};
 use fix_engine::RoundSolver;
 use gimple_core::{Checked, Function, OutOfMemory, Params, Text};
 use gimple_text::{TextFault, parse, print};
@@ -45,28 +45,24 @@ fn accepted(alloc: Global, text: &[u8]) -> Result<Option<Checked>, OutOfMemory>
     }
 }
 
-/// The function of a number, folded. None where it has too many branches.
+/// The function of a number, folded.
 fn folded_function(
     alloc: Global,
     program: &Checked,
     number: u32,
-) -> Result<Option<Function>, OutOfMemory>
+) -> Result<Function, OutOfMemory>
     requires countable { IsCountable program.now.program }
     requires within { number < length program.now.program.functions }
 {
     let source = program.program();
     let function = &source.functions.as_slice()[number as usize];
-    if !has_few_branches(function.blocks.as_slice()) {
-        return Ok(None);
-    }
     let facts = top_facts(alloc, function)?;
     let values = values_of(alloc, program, number, &facts, &mut RoundSolver, &OPTIONS)?;
-    let folded = fold(alloc, program, number, &values)?;
-    Ok(Some(folded))
+    fold(alloc, program, number, &values)
 }
 
 /// The canonical text of the program of a text, with the function of a number folded. None where the text is too long or
-/// has no program without a type fault, or the program no function of this number with few branches.
+/// has no program without a type fault, or the program no function of this number.
 pub fn folded_text(alloc: Global, text: &[u8], number: u32) -> Result<Option<Text>, OutOfMemory> {
     if text.len() > LIMIT {
         return Ok(None);
@@ -77,9 +73,7 @@ pub fn folded_text(alloc: Global, text: &[u8], number: u32) -> Result<Option<Tex
     if number as usize >= checked.program().functions.len() {
         return Ok(None);
     }
-    let Some(function) = folded_function(alloc, &checked, number)? else {
-        return Ok(None);
-    };
+    let function = folded_function(alloc, &checked, number)?;
     let mut program = checked.into_program();
     program.functions.set(number as usize, function);
     Ok(Some(print(alloc, &program)?))

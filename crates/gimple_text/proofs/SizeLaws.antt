@@ -1,7 +1,10 @@
 -- A program has no more parts than its text has bytes.
 use Rattle.std.proofs.Common.{◌≡◌, ℕ, ◌+◌, ◌≤◌, ◌<◌, ◌^◌, List, [], ◌∷◌, length, sum_by, false, refl, None, Some, Result, Ok, Err, IfOk, ap, arith, length-append}
+use Rattle.std.specs.List.{All}
+use Rattle.std.proofs.lemmas.List.Elements.{All-nil, All-cons}
 use Rattle.std.proofs.lemmas.List.Sums.{sum_by-cons}
 use Rattle.gimple_ir.specs.declared.statement.Stmt.{Stmt}
+use Rattle.gimple_ir.specs.declared.block.Case.{Case}
 use Rattle.gimple_ir.specs.declared.block.End.{End}
 use Rattle.gimple_ir.specs.declared.block.End.TheVariants.{Goto, If, Switch, Return}
 use Rattle.gimple_ir.specs.declared.block.Block.{Block}
@@ -10,14 +13,14 @@ use Rattle.gimple_ir.specs.declared.declarations.StructDef.{StructDef}
 use Rattle.gimple_ir.specs.declared.declarations.Global.{Global}
 use Rattle.gimple_ir.specs.declared.program.Function.{Function}
 use Rattle.gimple_ir.specs.declared.program.Program.{Program}
-use Rattle.gimple_ir.specs.Size.{size_of_block, size_of_function}
+use Rattle.gimple_ir.specs.Size.{size_of_block, size_of_function, branches_of_end, branches_of_function}
 use Rattle.gimple_ir.specs.Counts.{AreNarrow, IsCountable}
 use Rattle.gimple_tokens.specs.declared.token.Token.{Token}
 use Rattle.gimple_tokens.specs.Lexing.{Bytes, LexesFrom, skip}
 use Rattle.gimple_tokens.proofs.Runs.{shorter, skip_length}
 use Rattle.token_law.specs.Reading.{Tokens}
 use Rattle.token_law.specs.Languages.{IsMany}
-use Rattle.gimple_grammar.specs.Grammar.{IsStmt, IsEnd, IsBlock, IsField, IsStruct, IsGlobal, IsFunction, IsProgram}
+use Rattle.gimple_grammar.specs.Grammar.{IsStmt, IsCase, IsEnd, IsBlock, IsField, IsLocal, IsStruct, IsGlobal, IsFunction, IsProgram}
 use Rattle.gimple_text.specs.declared.fault.TextFault.{TextFault}
 use Rattle.gimple_text.specs.Parse.{Spells}
 
@@ -38,11 +41,11 @@ parts_of_program p = sum_by width p.structs + (length p.globals + (length p.func
 -- ---- the tokens of each part
 
 module _ {A : Type 0} (S : A → Tokens → Type 0) (m : A → ℕ) (each : (x : A) (ts : Tokens) → S x ts → m x ≤ length ts) where
-  pub many_size : (xs : List A) (ts : Tokens) → IsMany S xs ts → sum_by m xs ≤ length ts
+  many_size : (xs : List A) (ts : Tokens) → IsMany S xs ts → sum_by m xs ≤ length ts
   many_size [] ts h = omega arith
   many_size (x ∷ xs) ts h = omega (arith, sum_by-cons m x xs, each x h.0 h.2, many_size xs h.1 h.3, length-append h.0 h.1, ap length h.4)
 
-pub counted : {A : Type 0} (xs : List A) → sum_by (λ _. 1) xs ≡ length xs
+counted : {A : Type 0} (xs : List A) → sum_by (λ _. 1) xs ≡ length xs
 counted [] = refl
 counted (x ∷ xs) = omega (arith, sum_by-cons (λ _. 1) x xs, counted xs)
 
@@ -91,6 +94,41 @@ tokens_size p ts h = omega (
   simp length-append at (ap length h.6),
 )
 
+-- ---- the parts of one function
+
+case_size : (c : Case) (ts : Tokens) → IsCase c ts → 1 ≤ length ts
+case_size c ts h = omega (arith, ap length h.2)
+
+end_branches : (e : End) (ts : Tokens) → IsEnd e ts → branches_of_end e ≤ length ts
+end_branches (Goto n) ts h = omega (arith, ap length h)
+end_branches (If l c r first second) ts h = omega (arith, ap length h.4)
+end_branches (Switch on cases other) ts h =
+    omega (arith, many_size IsCase (λ _. 1) case_size cases h.1 h.3, counted cases, simp length-append at (ap length h.4))
+end_branches (Return x) ts h = omega arith
+
+block_branches : (b : Block) (ts : Tokens) → IsBlock b ts → branches_of_end b.end ≤ length ts
+block_branches b ts h = omega (arith, end_branches b.end h.1 h.3, simp length-append at (ap length h.4))
+
+function_branches : (f : Function) (ts : Tokens) → IsFunction f ts → branches_of_function f ≤ length ts
+function_branches f ts h = omega (arith, many_size IsBlock (λ b. branches_of_end b.end) block_branches f.blocks h.4 h.9, simp length-append at (ap length h.10))
+
+local_size : (d : Decl) (ts : Tokens) → IsLocal d ts → 1 ≤ length ts
+local_size d ts h = omega (arith, ap length h)
+
+function_locals : (f : Function) (ts : Tokens) → IsFunction f ts → length f.locals ≤ length ts
+function_locals f ts h = omega (arith, many_size IsLocal (λ _. 1) local_size f.locals h.2 h.7, counted f.locals, simp length-append at (ap length h.10))
+
+-- a number of each function that its tokens bound is below what bounds all tokens
+module _ (m : Function → ℕ) (each : (f : Function) (ts : Tokens) → IsFunction f ts → m f ≤ length ts) where
+  each_few : (fs : List Function) (ts : Tokens) → IsMany IsFunction fs ts → length ts < 2 ^ 32 → All (λ f. m f < 2 ^ 32) fs
+  each_few [] ts h k = All-nil (λ f. m f < 2 ^ 32)
+  each_few (f ∷ fs) ts h k =
+      let sum = length-append h.0 h.1 in
+      let whole = ap length h.4 in
+      All-cons (λ f. m f < 2 ^ 32) f fs (omega (arith, each f h.0 h.2, sum, whole)) (each_few fs h.1 h.3 (omega (arith, sum, whole)))
+
+-- ---- the bytes of a text
+
 -- each token is a byte or more
 lexed_from : (bs : Bytes) (ts : List Token) → LexesFrom bs ts → length ts ≤ length bs
 lexed_from bs [] h = omega arith
@@ -105,16 +143,24 @@ narrow : (xs : List StructDef) → sum_by width xs < 2 ^ 32 → AreNarrow xs
 narrow [] h = tt
 narrow (x ∷ xs) h = let e = sum_by-cons width x xs in (omega (arith, e), narrow xs (omega (arith, e)))
 
+-- the tokens of a program's functions are fewer than the text's bytes
+functions_below : (bs : Bytes) (p : Program) (h : Spells bs p) → length h.spelled.2 ≤ length bs
+functions_below bs p h =
+    omega (arith, simp length-append at (ap length h.spelled.6), lexed_from (skip false bs) h.tokens h.lexed, skip_length false bs)
+
 -- what a text of fewer than 2^32 bytes spells can be counted
 pub countable : (bs : Bytes) (p : Program) → Spells bs p → length bs < 2 ^ 32 → IsCountable p
 countable bs p h k =
     let s = spelled_size bs p h in
+    let few : length h.spelled.2 < 2 ^ 32 = omega (arith, functions_below bs p h) in
     record {
       structs = omega (arith, widths p.structs);
       fields = narrow p.structs (omega arith);
       globals = omega arith;
       functions = omega arith;
       size = omega arith;
+      locals = each_few (λ f. length f.locals) function_locals p.functions h.spelled.2 h.spelled.5 few;
+      branches = each_few branches_of_function function_branches p.functions h.spelled.2 h.spelled.5 few;
     }
 
 pub countable_result : (bs : Bytes) (r : Result Program TextFault) → length bs < 2 ^ 32 → IfOk r (λ p. Spells bs p) → IfOk r IsCountable

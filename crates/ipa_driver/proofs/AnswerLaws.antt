@@ -11,7 +11,6 @@ use Rattle.gimple_text.specs.declared.fault.TextFault.TheVariants.{BadByte, BadT
 use Rattle.gimple_text.specs.Parse.{TextFaultOf}
 use Rattle.gimple_text.proofs.Laws.{spelled_spellable}
 use Rattle.gimple_text.proofs.SizeLaws.{countable}
-use Rattle.ipa_driver.proofs.LocalLaws.{few_locals}
 use Rattle.ipa_driver.specs.declared.tool.Tool.{Tool}
 use Rattle.ipa_driver.specs.declared.finish.Fault.{Fault}
 use Rattle.ipa_driver.specs.declared.finish.Fault.TheVariants.{Usage, Read, Long, Text, Types, Write, Memory}
@@ -43,7 +42,6 @@ judged words source old new text (Ok checked) l j = record {
   good = fetched (λ bytes. IsVerdict bytes (Good checked.program)) text j old.sources (bytes_of words (input_of source)) l.source;
   spellable = spelled_spellable text checked.program j.spelled;
   countable = countable text checked.program j.spelled (omega (arith, j.within));
-  locals = few_locals text checked.program j.spelled j.within;
   read = l.read;
 }
 judged words source old new text (Err (Text f)) l j = (of_text text f j.fault, fetched (λ bytes. IsVerdict bytes (BadText f)) text j old.sources (bytes_of words (input_of source)) l.source)

@@ -1,7 +1,6 @@
 pub mod VerdictLaws
 pub mod StoreLaws
 pub mod AnswerLaws
-pub mod LocalLaws
 pub mod GraphLaws
 pub mod MadeLaws
 pub mod WorkLaws

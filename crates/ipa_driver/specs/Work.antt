@@ -1,6 +1,5 @@
 -- What the parts of a run promise to each other.
-use Rattle.std.specs.Prelude.{◌≡◌, ◌⊎◌, ℕ, ◌+◌, ◌^◌, ◌<◌, ◌≤◌, List, length, Some, IfSome, Result, Ok, Err, OnErr, ⊤}
-use Rattle.std.specs.List.{All}
+use Rattle.std.specs.Prelude.{◌≡◌, ◌⊎◌, ℕ, ◌+◌, ◌<◌, ◌≤◌, List, length, Some, IfSome, Result, Ok, Err, OnErr, ⊤}
 use Rattle.shelf.specs.Outside.{Meaning, Rose, RoseBy, OnSource, LacksSource, Tells}
 use Rattle.words.specs.declared.options.SourceName.{SourceName}
 use Rattle.gimple_ir.specs.declared.program.Program.{Program}
@@ -46,16 +45,11 @@ Judges text (Err (Types f)) = IsVerdict text (BadTypes f)
 Judges text (Err Memory) = ⊤
 Judges text (Err f) = ⊥
 
--- each function's locals can be counted
-abbrev pub HasFewLocals : Program → Type 0
-HasFewLocals p = All (λ f. length f.locals < 2 ^ 32) p.functions
-
 -- a program that was fetched and accepted
 pub record IsLoaded (words : List (List ℕ)) (source : SourceName) (old new : Meaning) (checked : Sealed) : Type 0 where
   pub good : HasVerdict old.sources words source (Good checked.program)
   pub spellable : IsSpellable checked.program
   pub countable : IsCountable checked.program
-  pub locals : HasFewLocals checked.program
   pub read : new.read_faults ≡ old.read_faults
 
 -- what the work leaves as it is: no message is told yet

@@ -1,8 +1,8 @@
 //! What a run of a program stores.
 
-ghost use Rattle.std.specs.Prelude.{◌≡◌, ◌++◌, ◌<◌, ◌^◌, codes, length, IfOk};
+ghost use Rattle.std.specs.Prelude.{◌≡◌, ◌++◌, codes, IfOk};
+ghost use Rattle.gimple_ir.specs.Counts.{IsCountable};
 ghost use Rattle.ipa_driver.specs.RunAnswers.{kind_text, outcome_text, IsRunOutput};
-ghost use Rattle.ipa_driver.specs.Work.{HasFewLocals};
 
 use crate::outputs::Output;
 use gimple_core::{Checked, OutOfMemory, Outcome, Text, TrapKind};
@@ -17,8 +17,7 @@ pub fn run_outputs(
     options: &RunOptions,
     program: &Checked,
 ) -> Result<Vec<Output>, OutOfMemory>
-    requires globals { length program.now.program.globals < 2 ^ 32 }
-    requires locals { HasFewLocals program.now.program }
+    requires { IsCountable program.now.program }
     ensures { IfOk result (λ outputs. IsRunOutput words.now options.now program.now.program outputs.items) }
 {
     let numbers = input_numbers(alloc, words, options.first)?;
