@@ -1,6 +1,6 @@
 //! A shelf in memory, whose calls can be made to fail.
 
-ghost use Rattle.std.specs.Prelude.{◌≡◌, ◌≢◌, [], ◌≤◌, ◌^◌, IfOk, OnOk, OnErr};
+ghost use Rattle.std.specs.Prelude.{◌≡◌, ◌≢◌, [], ◌≤◌, ◌^◌, IfOk, OnOk, OnErr, IsSomeAnd};
 ghost use Rattle.std.specs.Option.{option_copied};
 ghost use Rattle.shelf.specs.Kept.{stored_in};
 ghost use Rattle.shelf.specs.Memory.{fail_of, source_of, kept_of};
@@ -54,7 +54,8 @@ impl Model for MemoryShelf {
 }
 
 impl MemoryShelf {
-    ghost use Rattle.shelf.specs.Memory.{new_memory, with_source};
+    ghost use Rattle.shelf.specs.Memory.{new_memory, with_source, memory_meaning};
+    ghost use Rattle.shelf.specs.Outside.{at_name};
 
     /// A shelf with room for so many bytes, and these fails; of two fails of one call the first counts.
     /// It has no sources and no stores, has told nothing, and all its numbers are 0.
@@ -88,9 +89,12 @@ impl MemoryShelf {
         Ok(())
     }
 
-    /// What was last stored under this name; None exactly where it was never stored.
+    /// What was last stored under this name; None exactly where it was never stored. It is what the shelf's meaning
+    /// has under it.
+    #[tactic(auto, using(crate::proofs::Stores::stored_meant))]
     pub fn stored(&self, name: &[u8]) -> Option<&[u8]>
-        ensures { option_copied result ≡ stored_in self.now.log.entries name.now }
+        ensures last { option_copied result ≡ stored_in self.now.log.entries name.now }
+        ensures meant { IsSomeAnd (memory_meaning self.now).stores (λ stores. option_copied result ≡ at_name stores name.now) }
     {
         self.log.stored(name)
     }

@@ -1,6 +1,7 @@
 //! What a list of words asks for.
 
 use gimple_ir::{Params, Passes};
+use thiserror::Error;
 
 /// A name of a source or an output. Words count from 1, places in a word from 0.
 #[derive(Clone, Copy, Debug, PartialEq, Eq)]
@@ -33,9 +34,9 @@ pub struct Options {
     pub workers: u32,
 }
 
-/// The first fault of a list of words: the number of the faulty word, from 1, and the fault's code. The fault 0,
-/// of the words as a whole, stands at word 0.
-#[derive(Clone, Copy, Debug, PartialEq, Eq)]
+/// The first fault of a list of words: the number of the faulty word, from 1, and the fault's code.
+#[derive(Clone, Copy, Debug, PartialEq, Eq, Error)]
+#[error("usage fault U{code:02} at word {word}")]
 pub struct UsageFault {
     pub word: usize,
     pub code: u8,

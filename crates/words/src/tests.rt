@@ -56,6 +56,14 @@ fn first_faults(rt: HostRuntime) -> Result<(), Fail> {
 }
 
 #[test]
+fn fault_text(rt: HostRuntime) -> Result<(), Fail> {
+    let fault = UsageFault { word: 3, code: 2 };
+    let text = format!(in rt.alloc(); "{fault}")?;
+    assert!(rt; text.as_str() == "usage fault U02 at word 3");
+    Ok(())
+}
+
+#[test]
 fn empty_words(rt: HostRuntime) -> Result<(), Fail> {
     let alloc = rt.alloc();
     let empty = Text::new(alloc);
