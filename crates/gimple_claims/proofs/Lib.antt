@@ -3,6 +3,7 @@ pub mod OneRun
 pub mod Accesses
 pub mod Steps
 pub mod Stack
+pub mod Fresh
 pub mod Activation
 pub mod Points
 pub mod Files
@@ -15,9 +16,11 @@ pub mod Acts
 pub mod Locals
 pub mod Living
 pub mod Globals
+pub mod Dead
 pub mod Registers
 pub mod Checked
 pub mod Lost
+pub mod Aborts
 pub mod TypedValues
 pub mod TypedStmts
 pub mod Typed

@@ -1,11 +1,13 @@
 -- What the checks of a program without a type fault say of its functions and of its runs.
 use Rattle.std.specs.Prelude.{◌≡◌, ℕ, ℤ, true, List, [], ◌∷◌, Some, None, Ok}
 use Rattle.gimple_ir.specs.declared.statement.Stmt.{Stmt}
+use Rattle.gimple_ir.specs.declared.statement.Stmt.TheVariants.{Abort}
+use Rattle.gimple_ir.specs.declared.value.TrapKind.TheVariants.{Abort as AbortTrap}
 use Rattle.gimple_ir.specs.declared.block.Block.{Block}
 use Rattle.gimple_ir.specs.declared.program.Function.{Function}
 use Rattle.gimple_ir.specs.declared.program.Program.{Program}
 use Rattle.gimple_core.specs.State.{State}
-use Rattle.gimple_core.specs.Run.{Calling, call_of, function_named, block_at}
+use Rattle.gimple_core.specs.Run.{Reaches, Traps, Calling, call_of, function_named, block_at, step, start}
 use Rattle.gimple_core.specs.Trace.{Event}
 use Rattle.gimple_core.specs.Env.{Env, Names, functions_by_name}
 pub use Rattle.gimple_core.specs.Typed.{env_of}
@@ -48,6 +50,14 @@ pub record NothingLost (p : Program) (s : State) : Type 0 where
   pub calls : (x : Stmt) (xs : List Stmt) (c : Calling) → s.top.rest ≡ x ∷ xs → call_of x ≡ Some c → FoundCallee p c.callee
   pub jumps : (label : ℕ) → s.top.rest ≡ [] → exit_of p.globals s.top.end s ≡ ToLabel label → (b : Block) × (block_at label s.top.function.blocks ≡ Some b)
 
+-- an accepted program begins to run
+abbrev pub RunsBegin : Type 0
+RunsBegin = (p : Program) → first_fault p ≡ None → (input : List ℤ) → (s : State) × (start p input ≡ Some s)
+
 -- in each state of each run of an accepted program
 abbrev pub NothingIsLost : Type 0
 NothingIsLost = (p : Program) → first_fault p ≡ None → (input : List ℤ) (past : List Event) (s : State) → Comes p input past s → NothingLost p s
+
+-- a step of a run of an accepted program that traps with `Abort` is the statement `abort`
+abbrev pub AbortsOfAbort : Type 0
+AbortsOfAbort = (p : Program) → first_fault p ≡ None → (input : List ℤ) (past : List Event) (s : State) (output : List ℕ) → Comes p input past s → step p s ≡ Reaches (Traps output AbortTrap) → (xs : List Stmt) × (s.top.rest ≡ Abort ∷ xs)

@@ -1,5 +1,5 @@
 -- What holds of each state that comes up in a run.
-use Rattle.std.specs.Prelude.{◌≡◌, ◌<◌, ◌+◌, ℕ, ◌==◌, ◌++◌, ℤ, Bool, true, List, [], ◌∷◌, map, filter, find, slice_get, Some}
+use Rattle.std.specs.Prelude.{◌≡◌, ◌<◌, ◌+◌, ℕ, ◌==◌, ◌++◌, ℤ, Bool, true, List, [], ◌∷◌, map, filter, find, slice_get, Option, Some, None}
 use Rattle.std.specs.List.{list_any, list_all}
 use Rattle.gimple_ir.specs.declared.scalar.Scalar.{Scalar}
 use Rattle.gimple_ir.specs.declared.declarations.Global.{Global as GlobalDef}
@@ -10,15 +10,16 @@ use Rattle.gimple_ir.specs.declared.value.Outcome.{Outcome}
 use Rattle.gimple_ir.specs.declared.value.Outcome.TheVariants.{Going, Ended, Trapped}
 use Rattle.gimple_ir.specs.declared.program.Program.{Program}
 use Rattle.gimple_core.specs.declared.machine.Cell.{Cell}
+use Rattle.gimple_core.specs.declared.machine.Extent.{Extent}
 use Rattle.gimple_core.specs.declared.machine.MemorySlot.{MemorySlot}
 use Rattle.gimple_core.specs.Memory.{Memory, same_object}
 use Rattle.gimple_core.specs.State.{Control, Frame, State}
 use Rattle.gimple_core.specs.Layout.{layout_of}
 use Rattle.gimple_core.specs.Run.{filled, item_value, Run}
-use Rattle.gimple_core.specs.Trace.{Event, Entry, At, Load, Store, Leave}
-use Rattle.gimple_claims.specs.Runs.{Comes}
+use Rattle.gimple_core.specs.Trace.{Event, Entry, At, Load, Store, Leave, EachAfter, Trace}
+use Rattle.gimple_claims.specs.Runs.{Comes, Leads}
 use Rattle.gimple_claims.specs.Bodies.{EachOf}
-use Rattle.gimple_claims.specs.Stack.{live, serials}
+use Rattle.gimple_claims.specs.Stack.{AreLive, serials}
 
 -- ---- serials
 
@@ -42,9 +43,21 @@ pub record Older (past : List Event) (s : State) : Type 0 where
 abbrev pub SerialsGrow : Type 0
 SerialsGrow = (p : Program) (input : List ℤ) (past : List Event) (s : State) → Comes p input past s → Older past s
 
+-- the frame that begins has a serial above all those before it
+abbrev pub EntryIsNew : List Event → Event → Type 0
+EntryIsNew past (Entry s g arguments m caller) = EachOf (IsOlder s) past
+EntryIsNew past (At c w) = Unit {0}
+EntryIsNew past (Load c scalar object offset v) = Unit {0}
+EntryIsNew past (Store c scalar object offset v) = Unit {0}
+EntryIsNew past (Leave s) = Unit {0}
+
+-- so no two calls of a run have the same serial
+abbrev pub EntriesAreNew : Type 0
+EntriesAreNew = (p : Program) (input : List ℤ) (n : ℕ) → EachAfter EntryIsNew [] (Trace p input n)
+
 -- the frames are the calls that have begun and not returned
 abbrev pub FramesAreLiveCalls : Type 0
-FramesAreLiveCalls = (p : Program) (input : List ℤ) (past : List Event) (s : State) → Comes p input past s → live past ≡ serials s
+FramesAreLiveCalls = (p : Program) (input : List ℤ) (past : List Event) (s : State) → Comes p input past s → AreLive past (serials s)
 
 -- ---- what lives
 
@@ -57,6 +70,15 @@ lives_in ns (Local serial k) = list_any (λ n. n == serial) ns
 abbrev pub LivingAreOfFrames : Type 0
 LivingAreOfFrames = (p : Program) (input : List ℤ) (past : List Event) (s : State) → Comes p input past s → list_all (λ x. lives_in (serials s) x.object) s.world.memory.living ≡ true
 
+-- the object as it lives, or none
+abbrev pub living_object : Object → Memory → Option Extent
+living_object object m = find (λ x. same_object x.object object) m.living
+
+-- what lives in one state and not in a later one lives in no state after that
+abbrev pub DeadStayDead : Type 0
+DeadStayDead = (p : Program) (input : List ℤ) (past : List Event) (s t u : State) (object : Object) (x : Extent) → Comes p input past s → Leads p s t → Leads p t u →
+    living_object object s.world.memory ≡ Some x → living_object object t.world.memory ≡ None → living_object object u.world.memory ≡ None
+
 -- ---- globals
 
 abbrev pub slots_of : ℕ → Memory → List MemorySlot
@@ -64,7 +86,7 @@ slots_of k m = filter (λ x. same_object x.object (Global k)) m.slots
 
 -- the global of this number lives, and if it is read-only its slots hold its items, then zero or null
 pub record HoldsGlobal (p : Program) (k : ℕ) (g : GlobalDef) (m : Memory) : Type 0 where
-  pub lives : find (λ x. same_object x.object (Global k)) m.living ≡ Some (record { object = Global k; size = (layout_of p.structs g.decl).size; constant = g.constant })
+  pub lives : living_object (Global k) m ≡ Some (record { object = Global k; size = (layout_of p.structs g.decl).size; constant = g.constant })
   pub items : g.constant ≡ true → slots_of k m ≡ filled (Global k) (layout_of p.structs g.decl).slots (map (item_value p.globals) g.items)
 
 -- in each state of each run, for each global

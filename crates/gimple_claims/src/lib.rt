@@ -1,8 +1,8 @@
 //! What holds in every run of a program, as laws: a state comes up in a run after the events that lie before it.
 #![tactic(auto)]
 
-ghost use Rattle.gimple_claims.specs.Checks.{FunctionsAreChecked, NothingIsLost};
-ghost use Rattle.gimple_claims.specs.Laws.{SerialsGrow, FramesAreLiveCalls, LivingAreOfFrames, GlobalsHold, RegistersAreDeclared, SettledRunsStay};
+ghost use Rattle.gimple_claims.specs.Checks.{FunctionsAreChecked, RunsBegin, NothingIsLost, AbortsOfAbort};
+ghost use Rattle.gimple_claims.specs.Laws.{SerialsGrow, EntriesAreNew, FramesAreLiveCalls, LivingAreOfFrames, DeadStayDead, GlobalsHold, RegistersAreDeclared, SettledRunsStay};
 ghost use Rattle.gimple_claims.specs.Typed.{ValuesAreTyped};
 
 /// Each frame and each event so far has a serial below the next one.
@@ -10,15 +10,25 @@ pub fn serials_grow()
     ensures { SerialsGrow }
 {}
 
-/// The frames of a state are the calls that have begun and not returned, by what has happened so far.
+/// Each call that begins has a serial above those of all events before it, so no two calls of a run have the same.
+pub fn entries_are_new()
+    ensures { EntriesAreNew }
+{}
+
+/// The frames of a state are the calls that have begun and not returned, by what has happened so far, and each return was
+/// that of the latest of them.
 pub fn frames_are_live_calls()
     ensures { FramesAreLiveCalls }
 {}
 
-/// Each living object is a global or a local of a frame of the state; so an object of a frame that has returned is dead,
-/// and stays dead, since new frames have new serials.
+/// Each living object is a global or a local of a frame of the state.
 pub fn living_objects_are_of_frames()
     ensures { LivingAreOfFrames }
+{}
+
+/// An object that lives in one state of a run, and not in a later one, lives in no state after that.
+pub fn dead_objects_stay_dead()
+    ensures { DeadStayDead }
 {}
 
 /// Each global lives throughout a run, and the slots of a read-only one hold its items, then zero or null.
@@ -36,10 +46,20 @@ pub fn functions_are_checked()
     ensures { FunctionsAreChecked }
 {}
 
+/// A program without a type fault has a `main` with blocks, so it begins to run.
+pub fn runs_begin()
+    ensures { RunsBegin }
+{}
+
 /// In a run of a program without a type fault the callee of each call has a first block, and each block that an end
-/// leads to is there; so `Abort` comes of `abort` alone.
+/// leads to is there.
 pub fn nothing_is_lost()
     ensures { NothingIsLost }
+{}
+
+/// In a run of a program without a type fault only the statement `abort` traps with `Abort`.
+pub fn aborts_are_of_abort()
+    ensures { AbortsOfAbort }
 {}
 
 /// In a run of a program without a type fault, on numbers of i64, each register and each slot of memory holds a value of
