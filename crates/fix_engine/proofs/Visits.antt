@@ -6,8 +6,8 @@ use Rattle.fix_engine.specs.Bools.{and_left, and_right, both}
 use Rattle.fix_engine.specs.Lattice.{LatticeLaws}
 use Rattle.fix_engine.specs.Least.{Equations, FlowLaws, value_at}
 use Rattle.fix_engine.specs.Outgoing.{IsNextFrom}
-use Rattle.fix_engine.specs.Solving.{AreSources, Follows, IsVisiting, work_left, visits_left, follows_left, all_left, some_left, from_next}
-use Rattle.fix_engine.proofs.Work.{sum_below_le}
+use Rattle.fix_engine.specs.Solving.{AreSources, Follows, IsVisiting, one_if, work_left, visits_left, follows_left, all_left, some_left, from_next}
+use Rattle.fix_engine.proofs.Work.{sum_below_le, sum_below_has}
 use Rattle.fix_engine.proofs.Worklist.{one_if_from, visiting_followed, followed_work, followed_visits}
 
 eqb_true : (m n : ℕ) → (m == n) ≡ true → m ≡ n
@@ -29,6 +29,12 @@ next_at (Some e) sources node low is d h =
       | inl less ↦ let t = lt-ltb d e less in let n : not (nat_lt d e) ≡ false = ap not t in cc (n, h)
       | inr le ↦ let f = is.from_low in omega (arith, f, le)
     ]
+
+from_itself : (e : ℕ) → from_next (Some e) e ≡ true
+from_itself e = elim (cases_Bool (nat_lt e e)) [
+  | inl less ↦ absurd (let lt = ltb-true e e less in omega (arith, lt))
+  | inr more ↦ rw more refl
+]
 
 module _ {V : Type 0} (s : Equations V) (outgoing : List ℕ) (sources : AreSources s outgoing) (node : ℕ) where
   -- at first all edges from the node are left
@@ -58,10 +64,7 @@ module _ {V : Type 0} (s : Equations V) (outgoing : List ℕ) (sources : AreSour
         ]
 
     pub next_had : some_left s node (Some e) e ≡ true
-    next_had = both (s.source e == node) (not (nat_lt e e)) (eq-eqb (s.source e) node is_from) (elim (cases_Bool (nat_lt e e)) [
-      | inl less ↦ absurd (let lt = ltb-true e e less in omega (arith, lt))
-      | inr more ↦ rw more refl
-    ])
+    next_had = both (s.source e == node) (from_next (Some e) e) (eq-eqb (s.source e) node is_from) (from_itself e)
 
     pub next_has_not : some_left s node after e ≡ false
     next_has_not = elim (cases_Bool (some_left s node after e)) [
@@ -117,6 +120,17 @@ module _ {V : Type 0} {fits : List ℕ → V → Type 0} {height : List ℕ → 
     sum_below_le (λ e. rank k (value_at s xs (s.source e)) + follows_left s waits (all_left s node) e) (λ e. rank k (value_at s xs (s.source e)) + follows_left s waits (some_left s node next) e) s.edges
         (λ e h. let l = one_if_from (some_left s node next e) (all_left s node e) (some_from_all s outgoing sources node next e) in omega (arith, l)),
   )
+
+  -- where an edge is next, work is left
+  pub visit_work : (next : Option ℕ) → IsAtEdge fits rank below k s node next xs waits → (e : ℕ) → next ≡ Some e
+      → 0 < work_left (rank k) s xs (follows_left s waits (some_left s node next))
+  visit_work next at e next_is =
+      let A : Option ℕ → Type 0 = λ o. IsAtEdge fits rank below k s node o xs waits in
+      let here = subst A next_is at in
+      let W : Option ℕ → Type 0 = λ o. 0 < work_left (rank k) s xs (follows_left s waits (some_left s node o)) in
+      let left = ap one_if (both (s.source e == node) (from_next (Some e) e) (eq-eqb (s.source e) node here.is_from) (from_itself e)) in
+      let has = sum_below_has (λ d. rank k (value_at s xs (s.source d)) + follows_left s waits (some_left s node (Some e)) d) s.edges e here.is_edge in
+      subst W (sym next_is) (omega (arith, left, has))
 
   pub visit_next : (next : Option ℕ) → IsAtEdge fits rank below k s node next xs waits → (e : ℕ) → next ≡ Some e
       → (ys : List V) (marked : List Bool) → Follows below joined s e xs waits ys marked

@@ -1,6 +1,6 @@
 //! The flow of truth values on a ring of four nodes, of which the first starts true.
 
-ghost use Rattle.std.specs.Prelude.{◌≡◌, ◌<◌, ◌≤◌, ◌-◌, [], IfOk, OnOk};
+ghost use Rattle.std.specs.Prelude.{◌≡◌, ◌<◌, ◌≤◌, ◌-◌, [], IfOk};
 ghost use Rattle.fix_engine.specs.Least.{IsLeast};
 ghost use Rattle.fix_engine.specs.Ring.{ring, ring_laws};
 ghost use Rattle.fix_engine.specs.Truth.{FitsAny, implies};
@@ -50,7 +50,7 @@ fn in_eight_steps<L: Ledger>(
     steps: &mut Steps<L>,
 ) -> Result<Assignment<bool>, OutOfMemory>
     ensures least { IfOk result (λ a. IsLeast (FitsAny []) implies ring a) }
-    ensures cost { OnOk result (steps.new - steps.old ≤ 8) }
+    ensures cost { steps.new - steps.old ≤ 8 }
 {
     let order = [0, 1, 2, 3];
     solve_in_order(alloc, &Ring, &order, steps)
@@ -89,6 +89,26 @@ fn lattices_of_lattices(rt: HostRuntime) -> Result<(), Fail> {
     if let Lifted::Reached(Pair { first, second }) = low.copy()? {
         assert_eq!(rt; first.into_vec().as_slice(), [false, true].as_slice());
         assert!(rt; !second);
+    }
+    Ok(())
+}
+
+#[test]
+fn each_half_is_joined(rt: HostRuntime) -> Result<(), Fail> {
+    let mut joined = Lifted::Reached(Pair {
+        first: true,
+        second: false,
+    });
+    let other = Lifted::Reached(Pair {
+        first: false,
+        second: true,
+    });
+    assert!(rt; !joined.leq(&other));
+    joined.join(&other)?;
+    if let Lifted::Reached(Pair { first, second }) = joined {
+        assert!(rt; first && second);
+    } else {
+        assert!(rt; false, "what was reached stays so");
     }
     Ok(())
 }

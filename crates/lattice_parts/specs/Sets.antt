@@ -47,7 +47,7 @@ abbrev pub placed_some : {X : Type 0} → (X → X → Bool) → Option X → Li
 placed_some lt None xs = xs
 placed_some lt (Some c) xs = placed lt c xs
 
--- the members of both
+-- the members of either
 abbrev pub united : {X : Type 0} → (X → X → Bool) → List X → List X → List X
 united lt [] ys = ys
 united lt (x ∷ xs) ys = united lt xs (placed lt x ys)

@@ -1,35 +1,43 @@
 -- Values brought into a scalar.
-use Rattle.std.proofs.Common.{cond, ◌≡◌, ℕ, ◌%◌, ◌^◌, ◌<◌, ◌≤◌, ℤ, pos, ◌≤ℤ◌, inl, inr, Bool, true, false, refl, sym, ◌∙◌, ap, subst, int_le, arith, bit_and, List, [], ◌∷◌, length, Option, Some, None}
-use Rattle.std.specs.Int.{int_min, int_max}
+use Rattle.std.proofs.Common.{cond, ◌≡◌, ℕ, ◌%◌, ◌^◌, ◌<◌, ◌≤◌, ℤ, pos, min, not, ◌&&◌, ◌≤ℤ◌, inl, inr, Bool, true, false, refl, sym, ◌∙◌, ap, subst, int_le, arith, bit_and, List, [], ◌∷◌, length, Option, Some, None}
+use Rattle.std.specs.Int.{int_min, int_max, bit_at}
 use Rattle.std.proofs.lemmas.Int.{ints, clamps}
 use Rattle.std.proofs.lemmas.Bool.{le-leb}
 use Rattle.std.proofs.lemmas.Nat.{mod_below, and_mod, and_le_r}
 use Rattle.std.proofs.Math.Nat.{mod-eq_of_lt}
 use Rattle.gimple_ir.specs.declared.scalar.Scalar.{Scalar}
+use Rattle.gimple_ir.specs.declared.value.Value.{Value}
+use Rattle.gimple_ir.specs.declared.value.Value.TheVariants.{Int as Number, Null as NullPointer, At}
+use Rattle.gimple_ir.specs.declared.value.Object.TheVariants.{Global as GlobalObject, Local as LocalObject}
 use Rattle.gimple_ir.specs.declared.value.Constant.{Constant}
-use Rattle.gimple_core.specs.Operators.{bits_of, modulus_of}
+use Rattle.gimple_ir.specs.declared.value.Constant.TheVariants.{Int, Null, Global}
+use Rattle.gimple_core.specs.Operators.{in_scalar, bits_of, modulus_of}
 use Rattle.lattice_parts.specs.Sets.{Has, kept_members}
 use Rattle.value_domain.specs.declared.bits.Bits.{Bits}
 use Rattle.value_domain.specs.declared.range.Range.{Range}
 use Rattle.value_domain.specs.declared.vals.Vals.{Vals}
 use Rattle.value_domain.specs.declared.vals.Vals.TheVariants.{Any, Nothing, Among}
 use Rattle.value_domain.specs.declared.abs_val.AbsVal.{AbsVal}
-use Rattle.value_domain.specs.Bitmasks.{IsBits, AreBelow}
-use Rattle.value_domain.specs.Ranges.{Within, WithinEach, FitsRange, meet_range}
+use Rattle.value_domain.specs.Bitmasks.{pattern, Agrees, IsBits, AreBelow}
+use Rattle.value_domain.specs.BitsLemmas.{bit_agrees}
+use Rattle.value_domain.specs.Ranges.{InRange, InEach, Within, WithinEach, FitsRange, meet_range}
 use Rattle.value_domain.specs.RangeOperators.{type_range}
-use Rattle.value_domain.specs.FitLemmas.{le_tells, meet_monotone}
+use Rattle.value_domain.specs.FitLemmas.{le_tells, meet_holds, meet_monotone}
 use Rattle.value_domain.specs.BitOperators.{unknown_bits}
 use Rattle.value_domain.specs.ConstantOperators.{is_pointer, constant_in, vals_of, kept_vals}
 use Rattle.value_domain.specs.AbsOperators.{assembled, zero_range, span_of, bits_in, range_in, brought_into}
 use Rattle.value_domain.specs.Values.{FitsVals, is_none_val, none_val, abs_val_below}
 use Rattle.value_domain.specs.ValueLemmas.{abs_apart}
 use Rattle.value_domain.specs.Thresholds.{IsLawful}
-use Rattle.value_domain.specs.Holding.{ValsOf}
-use Rattle.value_domain.specs.Laws.{BroughtFits, BroughtRises, BroughtSame}
-use Rattle.value_domain.proofs.ScalarLemmas.{halves, type_zero}
+use Rattle.value_domain.specs.Holding.{constant_of, number_part, value_of_scalar, ValsOf}
+use Rattle.value_domain.specs.Laws.{BroughtHolds, BroughtFits, BroughtRises, BroughtSame}
+use Rattle.value_domain.proofs.ScalarLemmas.{in_type, halves, type_zero}
+use Rattle.value_domain.proofs.TwosLemmas.{mod_bit}
+use Rattle.value_domain.proofs.AgreeLemmas.{agrees_by}
+use Rattle.value_domain.proofs.BitSoundness.{unknown_holds}
 use Rattle.value_domain.proofs.BitOrder.{below_unknown}
-use Rattle.value_domain.proofs.ValsLaws.{kept_fit, kept_in, kept_rise}
-use Rattle.value_domain.proofs.WholeLemmas.{width_is, span_is, IsGood, none_good, assembled_good, PartsBelow, parts_below_is, assembled_rises, IsFullOption}
+use Rattle.value_domain.proofs.ValsLaws.{kept_hold, kept_fit, kept_in, kept_rise}
+use Rattle.value_domain.proofs.WholeLemmas.{width_is, span_is, IsGood, none_good, none_holds, assembled_good, assembled_holds, PartsBelow, parts_below_is, assembled_rises, IsFullOption}
 use Rattle.value_domain.proofs.MeetLaws.{meet_fits}
 
 clash : (b : Bool) → b ≡ true → b ≡ false → ⊥
@@ -164,3 +172,43 @@ brought_same most ts scalar a (inr p) (inr q) = rw (p.full) (whole_same a _ _ _ 
         let h : pos 0 ≡ a.range.high = omega (arith, ints, w.low, w.high, f) in
         ap Some (λ i. record { low = l i; high = h i })
     ranges false e w = same_range (type_range scalar) a.range p.third.full w
+
+-- ---- it holds the scalar's values
+
+constant_stays : (scalar : Scalar) (v : Value) (c : Constant) → value_of_scalar scalar v ≡ true → constant_of v ≡ Some c → constant_in scalar c ≡ true
+constant_stays scalar (Number z) c h e = let same : Int z ≡ c = cc in subst (λ d. constant_in scalar d ≡ true) same h
+constant_stays scalar NullPointer c h e = let same : Null ≡ c = cc in subst (λ d. constant_in scalar d ≡ true) same h
+constant_stays scalar (At (GlobalObject k) offset) c h e = let same : Global k offset ≡ c = cc in subst (λ d. constant_in scalar d ≡ true) same h
+constant_stays scalar (At (LocalObject serial k) offset) c h e = cc
+
+cut_holds : (scalar : Scalar) (n : ℕ) (b : Bits) → Agrees n b → Agrees n (record { mask = b.mask % modulus_of scalar; value = b.value % modulus_of scalar })
+cut_holds scalar n b h =
+    let p = halves scalar in
+    agrees_by scalar n _ (mod_below b.mask (modulus_of scalar) (omega arith)) (mod_below b.value (modulus_of scalar) (omega arith))
+    (λ i l. ap (λ (q : ℕ). min (bit_at n i) q) (mod_bit b.mask (bits_of scalar) i l) ∙ (bit_agrees n i b h ∙ sym (mod_bit b.value (bits_of scalar) i l)))
+
+bits_stay : (scalar : Scalar) (n : ℕ) (b : Bits) → Agrees n b → Agrees n (bits_in scalar b)
+bits_stay scalar n b h = by (is_pointer scalar)
+  where
+    by : (t : Bool) → Agrees n (cond t unknown_bits (record { mask = b.mask % modulus_of scalar; value = b.value % modulus_of scalar }))
+    by true = unknown_holds n
+    by false = cut_holds scalar n b h
+
+range_stays : (scalar : Scalar) (v : Value) (r : Range) → value_of_scalar scalar v ≡ true → InRange (number_part v) r → InEach (number_part v) (range_in scalar r)
+range_stays scalar (Number z) r h i = by (is_pointer scalar) h
+  where
+    by : (b : Bool) → (not b && in_scalar scalar z) ≡ true → InEach z (cond b (Some zero_range) (meet_range (type_range scalar) r))
+    by true k = cc
+    by false k = meet_holds (type_range scalar) r z (in_type scalar z k) i
+range_stays scalar NullPointer r h i = rw h (record { from = omega (arith, ints); to = omega (arith, ints) })
+range_stays scalar (At object offset) r h i = rw h (record { from = omega (arith, ints); to = omega (arith, ints) })
+
+pub brought_holds : BroughtHolds
+unfolding brought_into
+brought_holds most ts scalar a (inl n) v h k = absurd (none_holds v a (abs_apart a none_val n.is) k)
+brought_holds most ts scalar a (inr p) v h k =
+    rw (p.full)
+    (assembled_holds v (kept_vals (constant_in scalar) a.vals) (bits_in scalar a.bits) (range_in scalar a.range)
+    (kept_hold (constant_in scalar) a.vals (constant_of v) k.vals (λ c e. constant_stays scalar v c h e))
+    (bits_stay scalar (pattern (number_part v)) a.bits k.bits)
+    (range_stays scalar v a.range h k.range))

@@ -25,6 +25,7 @@ pub mod MeetLaws
 pub mod RefineLaws
 pub mod KnownLaws
 pub mod BringLaws
+pub mod AboveLaws
 pub mod RiseLaws
 pub mod TrapLaws
 pub mod TopLaws

@@ -44,10 +44,6 @@ whole_monotone t r s p q w =
     outside (inl h) m n = omega (arith, ints)
     outside (inr h) m n = omega (arith, ints)
 
--- the exact result stays, and every number of the type is in the whole type
-pub whole_holds : (t r : Range) (z : ℤ) → InRange z r → InRange z t → InRange z (whole_unless t r)
-whole_holds t r z h k = unless_cases t r (λ (x : Range). InRange z x) (λ (_ : t.low ≤ℤ r.low) (_ : r.high ≤ℤ t.high). h) (λ (_ : (r.low <ℤ t.low) ⊎ (t.high <ℤ r.high)). k)
-
 -- one of the two is the least or the greatest
 pub picked_min : (p q : ℤ) (P : ℤ → Type 0) → P p → P q → P (int_min p q)
 picked_min p q P a b = elim (int_lt q p) as (λ (v : Bool). P (cond v q p)) [ true ↦ b | false ↦ a ]

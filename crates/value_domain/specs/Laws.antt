@@ -1,5 +1,5 @@
 -- What is promised of the operators, with a limit of constants and lawful thresholds.
-use Rattle.std.specs.Prelude.{◌≡◌, ℕ, ℤ, true, false, List, Some, Result, Ok}
+use Rattle.std.specs.Prelude.{◌≡◌, ◌⊎◌, ℕ, ℤ, true, false, List, Some, Result, Ok}
 use Rattle.gimple_ir.specs.declared.scalar.Scalar.{Scalar}
 use Rattle.gimple_ir.specs.declared.scalar.Op.{Op}
 use Rattle.gimple_ir.specs.declared.scalar.Cmp.{Cmp}
@@ -10,7 +10,7 @@ use Rattle.gimple_core.specs.Run.{arith_of, compares, one_if, converted}
 use Rattle.value_domain.specs.declared.abs_val.AbsVal.{AbsVal}
 use Rattle.value_domain.specs.ConstantOperators.{is_pointer}
 use Rattle.value_domain.specs.AbsOperators.{abs_op_of, abs_cmp_of, abs_convert_of, abs_met, refined_of, known_of, may_trap_of, brought_into, top_of, exactly_of}
-use Rattle.value_domain.specs.Values.{FitsWith, abs_val_below, kind_of, limit_in, thresholds_in}
+use Rattle.value_domain.specs.Values.{FitsWith, abs_val_below, abs_val_joined, kind_of, limit_in, thresholds_in}
 use Rattle.value_domain.specs.Thresholds.{IsLawful}
 use Rattle.value_domain.specs.Holding.{Holds, constant_of, value_of_scalar, IsOf, IsAllowed, MayCompare}
 
@@ -66,6 +66,14 @@ ConvertRises = (most : ℕ) (ts : List ℤ) → IsLawful ts → (target source :
     → (a c : AbsVal) → FitsWith most ts a → IsOf source a → FitsWith most ts c → IsOf source c
     → abs_val_below a c ≡ true → abs_val_below (abs_convert_of target source most ts a) (abs_convert_of target source most ts c) ≡ true
 
+-- what holds below holds above
+abbrev pub AboveHolds : Type 0
+AboveHolds = (most : ℕ) (ts : List ℤ) (a b : AbsVal) → FitsWith most ts a → abs_val_below a b ≡ true → (v : Value) → Holds v a → Holds v b
+
+-- a join holds what either side holds
+abbrev pub JoinHolds : Type 0
+JoinHolds = (most : ℕ) (ts : List ℤ) (a b : AbsVal) → FitsWith most ts a → FitsWith most ts b → (v : Value) → Holds v a ⊎ Holds v b → Holds v (abs_val_joined a b)
+
 -- a meet holds each value that both hold
 abbrev pub MeetHolds : Type 0
 MeetHolds = (most : ℕ) (ts : List ℤ) (a b : AbsVal) → FitsWith most ts a → FitsWith most ts b → (v : Value) → Holds v a → Holds v b → Holds v (abs_met a b)
@@ -101,6 +109,10 @@ BroughtRises = (most : ℕ) (ts : List ℤ) → IsLawful ts → (scalar : Scalar
 
 abbrev pub BroughtSame : Type 0
 BroughtSame = (most : ℕ) (ts : List ℤ) (scalar : Scalar) (a : AbsVal) → FitsWith most ts a → IsOf scalar a → brought_into scalar a ≡ a
+
+-- what is brought into a scalar holds each value of the scalar that was held
+abbrev pub BroughtHolds : Type 0
+BroughtHolds = (most : ℕ) (ts : List ℤ) (scalar : Scalar) (a : AbsVal) → FitsWith most ts a → (v : Value) → value_of_scalar scalar v ≡ true → Holds v a → Holds v (brought_into scalar a)
 
 abbrev pub MeetRises : Type 0
 MeetRises = (most : ℕ) (ts : List ℤ) (a b c d : AbsVal) → FitsWith most ts a → FitsWith most ts b → FitsWith most ts c → FitsWith most ts d

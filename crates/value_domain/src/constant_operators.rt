@@ -233,7 +233,7 @@ fn set_of(limit: u64, constants: Vec<Constant>) -> Vals
     }
 }
 
-/// The set of the results of all pairs. As soon as there are too many, no more pairs are formed.
+/// The set of the results of all pairs. Once there are too many after all pairs of a left side, no more pairs are formed.
 fn gather(
     alloc: Global,
     limit: u64,

@@ -1,9 +1,12 @@
 //! What holds of the operators, as laws.
 
-ghost use Rattle.value_domain.specs.Laws.{OpHolds, OpFits, OpRises, CmpHolds, CmpFits, CmpRises, ConvertHolds, ConvertFits, ConvertRises, MeetHolds, MeetFits, MeetRises, RefineHolds, RefineFits, RefineRises, KnownHolds, NoTrap, TopHolds, TopFits, AloneHolds, AloneFits, KindLimit, KindThresholds, BroughtFits, BroughtRises, BroughtSame};
+ghost use Rattle.value_domain.specs.Laws.{OpHolds, OpFits, OpRises, CmpHolds, CmpFits, CmpRises, ConvertHolds, ConvertFits, ConvertRises, AboveHolds, JoinHolds, MeetHolds, MeetFits, MeetRises, RefineHolds, RefineFits, RefineRises, KnownHolds, NoTrap, TopHolds, TopFits, AloneHolds, AloneFits, KindLimit, KindThresholds, BroughtHolds, BroughtFits, BroughtRises, BroughtSame};
 
 use crate::abs_val::AbsVal;
+use crate::bits::Bits;
+use crate::range::Range;
 use crate::thresholds::Thresholds;
+use crate::vals::Vals;
 
 /// The result of an operator that does not trap is in the abstract result.
 pub fn operators_hold()
@@ -24,6 +27,12 @@ pub fn operators_fit()
     ensures arithmetic { OpFits }
     ensures comparison { CmpFits }
     ensures conversion { ConvertFits }
+{}
+
+/// What holds a value, all above it holds too, so a join holds what either side holds.
+pub fn higher_values_hold()
+    ensures above { AboveHolds }
+    ensures join { JoinHolds }
 {}
 
 /// A meet holds each value that both hold, and a taken comparison leaves the side's value.
@@ -54,8 +63,10 @@ pub fn closed_traps()
     ensures { NoTrap }
 {}
 
-/// What is brought into a scalar is of it and rises with the value, and a value of the scalar stays as it is.
+/// What is brought into a scalar holds each value of the scalar that was held, is of the scalar and rises with the value, and a
+/// value of the scalar stays as it is.
 pub fn brought_values()
+    ensures holds { BroughtHolds }
     ensures fits { BroughtFits }
     ensures rises { BroughtRises }
     ensures same { BroughtSame }
@@ -81,8 +92,11 @@ pub fn kinds_give_back()
 
 fn crosses<T: Send + Sync>(_value: &T) {}
 
-/// Abstract values and thresholds may be given to another thread, and read by several at once.
-pub fn values_cross(value: &AbsVal, limits: &Thresholds) {
+/// Abstract values, their parts and thresholds may be given to another thread, and read by several at once.
+pub fn values_cross(value: &AbsVal, vals: &Vals, bits: &Bits, range: &Range, limits: &Thresholds) {
     crosses(value);
+    crosses(vals);
+    crosses(bits);
+    crosses(range);
     crosses(limits);
 }

@@ -22,9 +22,9 @@ pub use bits::Bits;
 pub use constant::{ConstantOrder, NumberOrder};
 pub use gimple_core::Constant;
 pub use laws::{
-    alone_values, brought_values, closed_traps, kinds_give_back, known_constants_hold,
-    operators_fit, operators_hold, operators_rise, taken_comparisons_fit, taken_comparisons_hold,
-    taken_comparisons_rise, top_holds_all, values_cross,
+    alone_values, brought_values, closed_traps, higher_values_hold, kinds_give_back,
+    known_constants_hold, operators_fit, operators_hold, operators_rise, taken_comparisons_fit,
+    taken_comparisons_hold, taken_comparisons_rise, top_holds_all, values_cross,
 };
 pub use limits::thresholds_of;
 pub use operators::{

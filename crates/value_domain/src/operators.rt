@@ -8,7 +8,7 @@ ghost use Rattle.value_domain.specs.ConstantOperators.{is_pointer};
 ghost use Rattle.value_domain.specs.Ranges.{meet_range};
 ghost use Rattle.value_domain.specs.RangeOperators.{IsInside, IsWords, IsSignedWords, allowed, rounded_each, type_range};
 ghost use Rattle.value_domain.specs.AbsOperators.{assembled, top_of, span_of, zero_range, bits_alone, range_alone, exactly_of, bits_under, range_under, abs_op_of, bits_compared, range_compared, abs_cmp_of, abs_convert_of, abs_met, refined_of, refined_proper, ordered_left, known_of, range_constant, may_trap_of, range_traps, division_traps, count_traps, lies_outside, has_number, bits_in, range_in, brought_into};
-ghost use Rattle.value_domain.specs.Holding.{IsOf, IsAllowed, MayCompare};
+ghost use Rattle.value_domain.specs.Holding.{IsOf, IsAllowed, MayCompare, is_equality};
 
 use crate::abs_val::AbsVal;
 use crate::bit_operators::{
@@ -311,19 +311,17 @@ pub fn abs_convert(
     Ok(assemble(vals, Some(bits), Some(range)))
 }
 
-/// The numbers for which a comparison can hold of some number of an interval.
+/// The numbers for which a comparison by order can hold of some number of an interval.
 fn allowed_by(cmp: Cmp, range: Range) -> Range
-    requires { IsWords range }
+    requires words { IsWords range }
+    requires order { is_equality cmp ≡ false }
     ensures { result ≡ allowed cmp range }
 {
     let lowest = -0x8000_0000_0000_0000;
     let highest = 0xffff_ffff_ffff_ffff;
     match cmp {
-        Cmp::Eq => range,
-        Cmp::Ne => Range {
-            low: lowest,
-            high: highest,
-        },
+        Cmp::Eq => unreachable!(),
+        Cmp::Ne => unreachable!(),
         Cmp::Lt => Range {
             low: lowest,
             high: minus(range.high, 1),
@@ -358,7 +356,8 @@ fn left_by_order(
     against: &AbsVal,
     limits: &Thresholds,
 ) -> Result<AbsVal, OutOfMemory>
-    requires { IsWords against.now.range }
+    requires words { IsWords against.now.range }
+    requires order { is_equality cmp ≡ false }
     ensures { IfOk result (λ v. v ≡ ordered_left cmp limits.now.ends side.now against.now) }
 {
     let wanted = allowed_by(cmp, against.range);

@@ -1,5 +1,5 @@
 use Rattle.std.proofs.Common.{arith}
-use Rattle.fix_engine.proofs.Visits.{visit_first, visit_next}
+use Rattle.fix_engine.proofs.Visits.{visit_first, visit_next, visit_work}
 use Rattle.fix_engine.proofs.order.visit.Goals as goal
 
 pub loop-next-init : goal.loop-next-init
@@ -40,3 +40,12 @@ loop-next-preserved g c =
       cost = let less = next.1 in omega (arith, i.cost, less, c.tick.ensures);
       visits = let fewer = next.2 in omega (arith, i.visits, fewer);
     }
+
+pub returns-in_err-follow-clause-bound : goal.returns-in_err-follow-clause-bound
+returns-in_err-follow-clause-bound g c =
+    let s = g.F.Flow.equations c.args.flow.now in
+    let k = g.F.Flow.kind c.args.flow.now in
+    let i = c.loop-next.invariant in
+    let some = visit_work g.met.F.Value.Lattice.laws k s (g.met.F.Flow.laws c.args.flow.now) c.args.outgoing.now c.requires.sources c.args.node c.loop-next.values.items c.loop-next.waiting
+    c.loop-next.next (record { is_edge = i.is_edge; is_from = i.is_from; state = i.state }) c.in-Some.edge c.in-Some.is in
+    omega (arith, i.cost, some, c.tick.ensures)
