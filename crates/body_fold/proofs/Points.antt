@@ -19,7 +19,7 @@ use Rattle.gimple_ir.specs.declared.scalar.Cmp.TheVariants.{Eq}
 use Rattle.gimple_core.specs.Memory.{Memory}
 use Rattle.gimple_core.specs.State.{Control, World, State, Scope, scope_of}
 use Rattle.gimple_core.specs.Run.{Calling, call_of, act, step, values_of, target_of, block_place, place_or, case_for, case_target, compares, value_of}
-use Rattle.gimple_core.specs.Trace.{Event}
+use Rattle.gimple_core.specs.Trace.{Event, InEachRun}
 use Rattle.gimple_core.specs.Env.{named, functions_by_name}
 use Rattle.gimple_core.specs.Statements as s
 use Rattle.gimple_core.specs.Verdict.{found, demand}
@@ -46,7 +46,7 @@ use Rattle.body_values.specs.Flow.{body_of, labels_of, body_at, value_or, values
 use Rattle.body_values.specs.Rows.{RowFits}
 use Rattle.body_values.specs.Rising.{LoadsFit}
 use Rattle.body_values.specs.System.{loads_fit}
-use Rattle.body_values.specs.Claims.{given_of, InEachRun}
+use Rattle.body_values.specs.Claims.{given_of}
 use Rattle.body_values.proofs.Held.{RowHolds}
 use Rattle.gimple_claims.proofs.OneRun.{each_before}
 use Rattle.body_values.proofs.Points.{F, sol, is_at}

@@ -13,7 +13,7 @@ use Rattle.gimple_core.specs.Names.{same_name}
 use Rattle.gimple_core.specs.Operators.{in_scalar}
 use Rattle.gimple_core.specs.State.{State}
 use Rattle.gimple_core.specs.Run.{Calling, function_named, main_name, block_at, block_place, place_or, Run}
-use Rattle.gimple_core.specs.Trace.{Event, main_entry}
+use Rattle.gimple_core.specs.Trace.{Event, main_entry, InEachRun}
 use Rattle.gimple_claims.specs.Bodies.{FactsClaim}
 use Rattle.gimple_claims.specs.Exits.{ToLabel, exit_of}
 use Rattle.gimple_claims.specs.Kept.{new_body, new_blocks}
@@ -24,7 +24,7 @@ use Rattle.gimple_claims.proofs.Kept.{NewAt, none_new, kept_new}
 use Rattle.fix_engine.specs.declared.lifted.Lifted.{Lifted}
 use Rattle.value_domain.specs.declared.abs_val.AbsVal.{AbsVal}
 use Rattle.body_values.specs.declared.facts.Facts.{Facts}
-use Rattle.body_values.specs.Claims.{given_of, InEachRun}
+use Rattle.body_values.specs.Claims.{given_of}
 use Rattle.body_fold.specs.Fold.{new_stmt, new_end, first}
 use Rattle.body_fold.specs.Claims.{replaced, FoldKeepsRun}
 use Rattle.body_fold.proofs.FoldsBy.{FoldsBy, folds_by}
