@@ -28,7 +28,7 @@ use Rattle.gimple_core.proofs.StepLemmas.{call_is}
 use Rattle.gimple_claims.specs.Bodies.{FactsClaim, IsAt, file_at, body_of as statements_of}
 use Rattle.gimple_claims.specs.Exits.{ToLabel, exit_of}
 use Rattle.gimple_claims.specs.Checks.{env_of, StmtsPass}
-use Rattle.gimple_claims.specs.Laws.{keys, register_keys}
+use Rattle.gimple_claims.specs.Laws.{keys}
 use Rattle.gimple_claims.specs.Typed.{cells_typed}
 use Rattle.gimple_claims.proofs.Comes.{Comes}
 use Rattle.gimple_claims.proofs.Files.{Placed, placed, file_is}
@@ -169,7 +169,7 @@ module _ (p : Program) (n : ℕ) (f : Function) (facts : Facts) (most : ℕ) (ts
   typed : (past : List Event) (st : State) → Comes p input past st → cells_typed st.world.cells ≡ true
   typed past st c = (values_are_typed p folds.values.accepted input numbers past st c).top
 
-  declared : (past : List Event) (st : State) → Comes p input past st → keys st.world.cells ≡ register_keys (st.top.function.params ++ st.top.function.registers)
+  declared : (past : List Event) (st : State) → Comes p input past st → keys st.world.cells ≡ st.top.function.params ++ st.top.function.registers
   declared past st c = (registers_are_declared p input past st c).top
 
   -- ---- statements
