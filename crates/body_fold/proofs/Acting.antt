@@ -29,7 +29,7 @@ use Rattle.gimple_core.specs.Statements as s
 use Rattle.gimple_core.proofs.Passed.{first_passed, demanded}
 use Rattle.gimple_core.proofs.ScalarLemmas.{same_scalar_true}
 use Rattle.gimple_claims.specs.Exits.{Exit, ToLabel, Returns, exit_of}
-use Rattle.gimple_claims.specs.Laws.{keys, register_keys}
+use Rattle.gimple_claims.specs.Laws.{keys}
 use Rattle.gimple_claims.specs.Checks.{env_of}
 use Rattle.gimple_claims.specs.Typed.{cells_typed}
 use Rattle.gimple_claims.proofs.TypedValues.{scalar_there, has_cell}
@@ -83,7 +83,7 @@ base_named p f scalar (RegBase other) offset e name g =
 base_named p f scalar (Variable other) offset e name g = cc
 
 module _ (p : Program) (n : ℕ) (f : Function) (facts : Facts) (most : ℕ) (ts : List ℤ) (law : IsLawful ts) (serial : ℕ) (d : World) (row : List AbsVal)
-    (k : keys d.cells ≡ register_keys (f.params ++ f.registers)) (t : cells_typed d.cells ≡ true) (fits : RowFits most ts (length (f.params ++ f.registers)) row) (h : RowHolds row d.cells)
+    (k : keys d.cells ≡ f.params ++ f.registers) (t : cells_typed d.cells ≡ true) (fits : RowFits most ts (length (f.params ++ f.registers)) row) (h : RowHolds row d.cells)
     (loads : LoadsFit (body_of p n f facts most ts)) (mean : NamesMean p.globals f.locals) where
   abbrev S : Folding
   S = folding_of p n f facts most ts

@@ -29,7 +29,7 @@ use Rattle.gimple_core.specs.Statements as s
 use Rattle.gimple_core.proofs.Passed.{err_no, first_passed, demanded}
 use Rattle.gimple_core.proofs.RangeLemmas.{wrapped_in}
 use Rattle.gimple_core.proofs.ScalarLemmas.{pointer_is}
-use Rattle.gimple_claims.specs.Laws.{keys, register_keys}
+use Rattle.gimple_claims.specs.Laws.{keys}
 use Rattle.gimple_claims.specs.Checks.{env_of}
 use Rattle.gimple_claims.specs.Typed.{is_of, cells_typed}
 use Rattle.gimple_claims.proofs.TypedValues.{ValueIs, arith_is, bit_in, int_is, operand_is, has_cell, value_there}
@@ -137,7 +137,7 @@ sides_named p f left cmp other e =
     (operand_named p f 4 a.0 left b.1, operand_named p f 4 a.0 other c.1)
 
 module _ (p : Program) (n : ℕ) (f : Function) (facts : Facts) (most : ℕ) (ts : List ℤ) (law : IsLawful ts) (serial : ℕ) (cells : List Cell) (row : List AbsVal)
-    (k : keys cells ≡ register_keys (f.params ++ f.registers)) (t : cells_typed cells ≡ true) (fits : RowFits most ts (length (f.params ++ f.registers)) row) (h : RowHolds row cells)
+    (k : keys cells ≡ f.params ++ f.registers) (t : cells_typed cells ≡ true) (fits : RowFits most ts (length (f.params ++ f.registers)) row) (h : RowHolds row cells)
     (loads : LoadsFit (body_of p n f facts most ts)) (mean : NamesMean p.globals f.locals) where
   abbrev pub B : Body
   B = body_of p n f facts most ts

@@ -19,7 +19,8 @@ use Rattle.gimple_core.proofs.NameLemmas.{same_name_true, same_name_self}
 use Rattle.gimple_core.proofs.Passed.{first_passed, demanded, at_passed, no_fault}
 use Rattle.gimple_core.proofs.EnvLemmas.{same_test, has_append, declared_new}
 use Rattle.gimple_core.proofs.KeptAccepted.{heads_are}
-use Rattle.gimple_claims.proofs.Checked.{ok_same, globals_made}
+use Rattle.gimple_core.proofs.ProgramTyped.{globals_are}
+use Rattle.gimple_claims.proofs.Checked.{ok_same}
 use Rattle.body_values.specs.Bodies.{is_local, global_place}
 use Rattle.body_fold.specs.Folders.{NamesMean}
 
@@ -67,7 +68,7 @@ global_first structs all number earlier out (x ∷ xs) h (suc k) g e =
     one_made : (earlier out : Names Global) (x : Global) → d.one_global structs all earlier x ≡ Ok out → out ≡ earlier ++ (x.decl.name, x) ∷ []
     one_made earlier out x h =
         let one : d.globals structs all 0 earlier (x ∷ []) ≡ Ok out = single h in
-        globals_made structs all 0 earlier out (x ∷ []) one
+        globals_are structs all 0 earlier out (x ∷ []) one
       where
         single : d.one_global structs all earlier x ≡ Ok out → d.globals structs all 0 earlier (x ∷ []) ≡ Ok out
         single h = rw h refl
@@ -187,7 +188,7 @@ parts p h =
     let b = first_passed (d.globals p.structs (globals_by_name p.globals) 0 [] p.globals) _ tt a.2 in
     let c = first_passed (d.heads b.0 0 [] p.functions) _ tt b.2 in
     let m = first_passed (d.main 0 p.functions) _ tt c.2 in
-    let variables : b.0 ≡ globals_by_name p.globals = globals_made p.structs (globals_by_name p.globals) 0 [] b.0 p.globals b.1 in
+    let variables : b.0 ≡ globals_by_name p.globals = globals_are p.structs (globals_by_name p.globals) 0 [] b.0 p.globals b.1 in
     let callees : c.0 ≡ functions_by_name p.functions = heads_are b.0 0 [] c.0 p.functions c.1 in
     record {
       structs = a.1;

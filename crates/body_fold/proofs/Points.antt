@@ -19,7 +19,7 @@ use Rattle.gimple_ir.specs.declared.scalar.Cmp.TheVariants.{Eq}
 use Rattle.gimple_core.specs.Memory.{Memory}
 use Rattle.gimple_core.specs.State.{Control, World, State, Scope, scope_of}
 use Rattle.gimple_core.specs.Run.{Calling, call_of, act, step, values_of, target_of, block_place, place_or, case_for, case_target, compares, value_of}
-use Rattle.gimple_core.specs.Trace.{Event}
+use Rattle.gimple_core.specs.Trace.{Event, InEachRun}
 use Rattle.gimple_core.specs.Env.{named, functions_by_name}
 use Rattle.gimple_core.specs.Statements as s
 use Rattle.gimple_core.specs.Verdict.{found, demand}
@@ -28,7 +28,7 @@ use Rattle.gimple_core.proofs.StepLemmas.{call_is}
 use Rattle.gimple_claims.specs.Bodies.{FactsClaim, IsAt, file_at, body_of as statements_of}
 use Rattle.gimple_claims.specs.Exits.{ToLabel, exit_of}
 use Rattle.gimple_claims.specs.Checks.{env_of, StmtsPass}
-use Rattle.gimple_claims.specs.Laws.{keys, register_keys}
+use Rattle.gimple_claims.specs.Laws.{keys}
 use Rattle.gimple_claims.specs.Typed.{cells_typed}
 use Rattle.gimple_claims.proofs.Comes.{Comes}
 use Rattle.gimple_claims.proofs.Files.{Placed, placed, file_is}
@@ -46,7 +46,7 @@ use Rattle.body_values.specs.Flow.{body_of, labels_of, body_at, value_or, values
 use Rattle.body_values.specs.Rows.{RowFits}
 use Rattle.body_values.specs.Rising.{LoadsFit}
 use Rattle.body_values.specs.System.{loads_fit}
-use Rattle.body_values.specs.Claims.{given_of, InEachRun}
+use Rattle.body_values.specs.Claims.{given_of}
 use Rattle.body_values.proofs.Held.{RowHolds}
 use Rattle.gimple_claims.proofs.OneRun.{each_before}
 use Rattle.body_values.proofs.Points.{F, sol, is_at}
@@ -169,7 +169,7 @@ module _ (p : Program) (n : ℕ) (f : Function) (facts : Facts) (most : ℕ) (ts
   typed : (past : List Event) (st : State) → Comes p input past st → cells_typed st.world.cells ≡ true
   typed past st c = (values_are_typed p folds.values.accepted input numbers past st c).top
 
-  declared : (past : List Event) (st : State) → Comes p input past st → keys st.world.cells ≡ register_keys (st.top.function.params ++ st.top.function.registers)
+  declared : (past : List Event) (st : State) → Comes p input past st → keys st.world.cells ≡ st.top.function.params ++ st.top.function.registers
   declared past st c = (registers_are_declared p input past st c).top
 
   -- ---- statements

@@ -13,18 +13,18 @@ use Rattle.gimple_core.specs.Names.{same_name}
 use Rattle.gimple_core.specs.Operators.{in_scalar}
 use Rattle.gimple_core.specs.State.{State}
 use Rattle.gimple_core.specs.Run.{Calling, function_named, main_name, block_at, block_place, place_or, Run}
-use Rattle.gimple_core.specs.Trace.{Event, main_entry}
+use Rattle.gimple_core.specs.Trace.{Event, main_entry, InEachRun}
 use Rattle.gimple_claims.specs.Bodies.{FactsClaim}
 use Rattle.gimple_claims.specs.Exits.{ToLabel, exit_of}
 use Rattle.gimple_claims.specs.Kept.{new_body, new_blocks}
-use Rattle.gimple_claims.specs.Instances.{Instances, instance, body_from, IsMade, AreMade, BeginAlike, CalleesAlike, StandsFor, MainsAlike, Specialises}
+use Rattle.gimple_claims.specs.Instances.{Instances, instance, IsMade, AreMade, BeginAlike, CalleesAlike, StandsFor, MainsAlike, Specialises}
 use Rattle.gimple_claims.proofs.Comes.{Comes}
 use Rattle.gimple_claims.proofs.Instances.{instances_run}
 use Rattle.gimple_claims.proofs.Kept.{NewAt, none_new, kept_new}
 use Rattle.fix_engine.specs.declared.lifted.Lifted.{Lifted}
 use Rattle.value_domain.specs.declared.abs_val.AbsVal.{AbsVal}
 use Rattle.body_values.specs.declared.facts.Facts.{Facts}
-use Rattle.body_values.specs.Claims.{given_of, InEachRun}
+use Rattle.body_values.specs.Claims.{given_of}
 use Rattle.body_fold.specs.Fold.{new_stmt, new_end, first}
 use Rattle.body_fold.specs.Claims.{replaced, FoldKeepsRun}
 use Rattle.body_fold.proofs.FoldsBy.{FoldsBy, folds_by}
@@ -145,13 +145,12 @@ module _ (p : Program) (n : ℕ) (f : Function) (facts : Facts) (most : ℕ) (ts
 
   -- ---- bodies
 
-  old_body : (j : ℕ) → (j == n) ≡ false → (k i : ℕ) (ys : List Stmt) → body_from I j k i ys ≡ ys
+  old_body : (j : ℕ) → (j == n) ≡ false → (k i : ℕ) (ys : List Stmt) → new_body (I.put j) k i ys ≡ ys
   old_body j t k i [] = refl
-  old_body j t k i (x ∷ ys) = let rest : body_from I j k (i + 1) ys ≡ ys = old_body j t k (i + 1) ys in rw (t, rest) refl
+  old_body j t k i (x ∷ ys) = let rest : new_body (I.put j) k (i + 1) ys ≡ ys = old_body j t k (i + 1) ys in rw (t, rest) refl
 
-  folded_body : (j : ℕ) → (j == n) ≡ true → (k i : ℕ) (ys : List Stmt) → new_body put k i ys ≡ body_from I j k i ys
-  folded_body j t k i [] = refl
-  folded_body j t k i (x ∷ ys) = let rest : new_body put k (i + 1) ys ≡ body_from I j k (i + 1) ys = folded_body j t k (i + 1) ys in rw (t, rest) refl
+  folded_body : (j : ℕ) → (j == n) ≡ true → (k i : ℕ) (ys : List Stmt) → new_body put k i ys ≡ new_body (I.put j) k i ys
+  folded_body j t k i ys = λ a. new_body (λ m l x. if sym t a then put m l x else x) k i ys
 
   stays : (j : ℕ) → (j == n) ≡ false → (k : ℕ) (b : Block) → IsMade I j k b b
   stays j t k b = record { body = sym (old_body j t k 0 b.body); end = rw t refl }

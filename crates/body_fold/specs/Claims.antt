@@ -7,11 +7,12 @@ use Rattle.gimple_ir.specs.declared.program.Program.{Program}
 use Rattle.gimple_core.specs.Accepted.{first_fault}
 use Rattle.gimple_core.specs.Operators.{in_scalar}
 use Rattle.gimple_core.specs.Run.{Run}
+use Rattle.gimple_core.specs.Trace.{InEachRun}
 use Rattle.gimple_claims.specs.Bodies.{FactsClaim}
 use Rattle.gimple_text.specs.CanonLaws.{HasText}
 use Rattle.value_domain.specs.Thresholds.{IsLawful}
 use Rattle.body_values.specs.declared.facts.Facts.{Facts}
-use Rattle.body_values.specs.Claims.{given_of, InEachRun}
+use Rattle.body_values.specs.Claims.{given_of}
 use Rattle.body_values.specs.Found.{Found, AreFound}
 use Rattle.body_values.specs.System.{FactsFit}
 use Rattle.body_fold.specs.Folders.{IsFoldOf}

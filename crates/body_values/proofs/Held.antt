@@ -11,7 +11,7 @@ use Rattle.gimple_core.specs.declared.machine.Cell.{Cell}
 use Rattle.gimple_core.specs.Names.{same_name, update_first}
 use Rattle.gimple_core.specs.State.{cell_of, assigned}
 use Rattle.gimple_core.specs.Statements as s
-use Rattle.gimple_claims.specs.Laws.{Key, keys, register_keys}
+use Rattle.gimple_claims.specs.Laws.{keys}
 use Rattle.gimple_claims.specs.Typed.{is_of, cells_typed}
 use Rattle.fix_engine.specs.declared.lifted.Lifted.TheVariants.{NotReached, Reached}
 use Rattle.fix_engine.specs.Rows.{Each}
@@ -136,21 +136,21 @@ pub record Found (rs : List Register) (row : List AbsVal) (name : List ℕ) (c :
   pub value : IsSomeAnd (slice_get row (place_of rs name)) (Holds c.value)
   pub scalar : register_scalar rs name ≡ c.scalar
 
-abbrev first_key : Key → List Key → Key
+abbrev first_key : Register → List Register → Register
 first_key d [] = d
 first_key d (k ∷ ks) = k
 
-abbrev later_keys : List Key → List Key
+abbrev later_keys : List Register → List Register
 later_keys [] = []
 later_keys (k ∷ ks) = ks
 
-abbrev no_key : Key
+abbrev no_key : Register
 no_key = record { name = []; scalar = Ptr }
 
-key_name : (r : Register) (c : Cell) (rs : List Register) (cs : List Cell) → keys (c ∷ cs) ≡ register_keys (r ∷ rs) → c.name ≡ r.name
+key_name : (r : Register) (c : Cell) (rs : List Register) (cs : List Cell) → keys (c ∷ cs) ≡ r ∷ rs → c.name ≡ r.name
 key_name r c rs cs k = ap (λ ks. (first_key no_key ks).name) k
 
-key_scalar : (r : Register) (c : Cell) (rs : List Register) (cs : List Cell) → keys (c ∷ cs) ≡ register_keys (r ∷ rs) → c.scalar ≡ r.scalar
+key_scalar : (r : Register) (c : Cell) (rs : List Register) (cs : List Cell) → keys (c ∷ cs) ≡ r ∷ rs → c.scalar ≡ r.scalar
 key_scalar r c rs cs k = ap (λ ks. (first_key no_key ks).scalar) k
 
 pub onward : {X : Type 0} (x : X) (xs : List X) (n : ℕ) → slice_get (x ∷ xs) (1 + n) ≡ slice_get xs n
@@ -159,7 +159,7 @@ onward x xs n = let e : 1 + n ≡ suc n = omega arith in ap (slice_get (x ∷ xs
 set_onward : (x : AbsVal) (xs : List AbsVal) (n : ℕ) (v : AbsVal) → slice_set (x ∷ xs) (1 + n) v ≡ x ∷ slice_set xs n v
 set_onward x xs n v = let e : 1 + n ≡ suc n = omega arith in ap (λ m. slice_set (x ∷ xs) m v) e
 
-pub found_there : (rs : List Register) (row : List AbsVal) (cells : List Cell) (name : List ℕ) (d : Cell) → keys cells ≡ register_keys rs → RowHolds row cells → cell_of name cells ≡ Some d → Found rs row name d
+pub found_there : (rs : List Register) (row : List AbsVal) (cells : List Cell) (name : List ℕ) (d : Cell) → keys cells ≡ rs → RowHolds row cells → cell_of name cells ≡ Some d → Found rs row name d
 found_there rs row [] name d k h e = cc
 found_there [] row (c ∷ cs) name d k h e = cc
 found_there (r ∷ rs) [] (c ∷ cs) name d k h e = absurd h
@@ -177,7 +177,7 @@ found_there (r ∷ rs) (a ∷ bs) (c ∷ cs) name d k h e =
         (subst (λ o. IsSomeAnd o (Holds d.value)) (sym (onward a bs (place_of rs name))) m.value, ap scalar_or (onward r rs (place_of rs name)) ∙ m.scalar)
 
 -- an assignment
-pub set_holds : (rs : List Register) (row : List AbsVal) (cells : List Cell) (name : List ℕ) (v : Value) (b : AbsVal) → keys cells ≡ register_keys rs → RowHolds row cells → Holds v b → RowHolds (slice_set row (place_of rs name) b) (assigned cells name v)
+pub set_holds : (rs : List Register) (row : List AbsVal) (cells : List Cell) (name : List ℕ) (v : Value) (b : AbsVal) → keys cells ≡ rs → RowHolds row cells → Holds v b → RowHolds (slice_set row (place_of rs name) b) (assigned cells name v)
 unfolding update_first
 set_holds rs [] [] name v b k h g = tt
 set_holds rs [] (c ∷ cs) name v b k h g = absurd h
@@ -196,7 +196,7 @@ set_holds (r ∷ rs) (a ∷ bs) (c ∷ cs) name v b k h g = by (same_name r.name
     by false false t more = subst (λ ys. RowHolds ys (c ∷ assigned cs name v)) (sym (set_onward a bs (place_of rs name) b)) (h.0, more)
 
 -- a refinement of what a register holds
-pub refined_holds : (rs : List Register) (row : List AbsVal) (cells : List Cell) (name : List ℕ) (b : AbsVal) → keys cells ≡ register_keys rs → RowHolds row cells → ((d : Cell) → cell_of name cells ≡ Some d → Holds d.value b) → RowHolds (slice_set row (place_of rs name) b) cells
+pub refined_holds : (rs : List Register) (row : List AbsVal) (cells : List Cell) (name : List ℕ) (b : AbsVal) → keys cells ≡ rs → RowHolds row cells → ((d : Cell) → cell_of name cells ≡ Some d → Holds d.value b) → RowHolds (slice_set row (place_of rs name) b) cells
 refined_holds rs [] [] name b k h g = tt
 refined_holds rs [] (c ∷ cs) name b k h g = absurd h
 refined_holds rs (a ∷ bs) [] name b k h g = absurd h

@@ -23,7 +23,7 @@ use Rattle.gimple_core.specs.Env.{scalar_of}
 use Rattle.gimple_core.specs.Statements as s
 use Rattle.gimple_core.proofs.Passed.{first_passed, demanded}
 use Rattle.gimple_core.proofs.ScalarLemmas.{same_scalar_true}
-use Rattle.gimple_claims.specs.Laws.{keys, register_keys}
+use Rattle.gimple_claims.specs.Laws.{keys}
 use Rattle.gimple_claims.specs.Checks.{env_of}
 use Rattle.gimple_claims.specs.Typed.{cells_typed}
 use Rattle.gimple_claims.proofs.TypedValues.{HasCell, has_cell, value_there, operand_is}
@@ -90,7 +90,7 @@ local_free globals scope name h = ap (λ o. local_address scope.serial o (addres
 -- ---- operands
 
 module _ (p : Program) (n : ℕ) (f : Function) (facts : Facts) (most : ℕ) (ts : List ℤ) (law : IsLawful ts) (serial : ℕ) (cells : List Cell) (row : List AbsVal)
-    (k : keys cells ≡ register_keys (f.params ++ f.registers)) (t : cells_typed cells ≡ true) (fits : RowFits most ts (length (f.params ++ f.registers)) row) (h : RowHolds row cells) where
+    (k : keys cells ≡ f.params ++ f.registers) (t : cells_typed cells ≡ true) (fits : RowFits most ts (length (f.params ++ f.registers)) row) (h : RowHolds row cells) where
   abbrev B : Body
   B = body_of p n f facts most ts
 

@@ -26,7 +26,7 @@ use Rattle.gimple_core.proofs.Passed.{first_passed}
 use Rattle.gimple_core.proofs.StepLemmas.{call_is}
 use Rattle.gimple_claims.specs.Bodies.{MeetsAt, EachOf, Meets, BodyFlow, IsBlock, first, jumped, StateAt, begin, next, IsAt, carried}
 use Rattle.gimple_claims.specs.Checks.{env_of, StmtsPass}
-use Rattle.gimple_claims.specs.Laws.{keys, register_keys}
+use Rattle.gimple_claims.specs.Laws.{keys}
 use Rattle.gimple_claims.specs.Typed.{cells_typed}
 use Rattle.gimple_claims.proofs.Comes.{Comes}
 use Rattle.gimple_claims.proofs.Files.{Placed, placed}
@@ -122,7 +122,7 @@ module _ (p : Program) (n : ℕ) (f : Function) (facts : Facts) (most : ℕ) (ts
   typed : (past : List Event) (s : State) → Comes p input past s → cells_typed s.world.cells ≡ true
   typed past s c = (values_are_typed p h.accepted input numbers past s c).top
 
-  declared : (past : List Event) (s : State) → Comes p input past s → keys s.world.cells ≡ register_keys (s.top.function.params ++ s.top.function.registers)
+  declared : (past : List Event) (s : State) → Comes p input past s → keys s.world.cells ≡ s.top.function.params ++ s.top.function.registers
   declared past s c = (registers_are_declared p input past s c).top
 
   -- a statement that is no call

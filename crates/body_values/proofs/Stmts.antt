@@ -26,7 +26,7 @@ use Rattle.gimple_core.specs.Env.{Names, scalar_of}
 use Rattle.gimple_core.specs.Statements as s
 use Rattle.gimple_core.proofs.Passed.{err_no, first_passed, demanded}
 use Rattle.gimple_core.proofs.ScalarLemmas.{same_scalar_true}
-use Rattle.gimple_claims.specs.Laws.{keys, register_keys}
+use Rattle.gimple_claims.specs.Laws.{keys}
 use Rattle.gimple_claims.specs.Checks.{env_of}
 use Rattle.gimple_claims.specs.Typed.{is_of, cells_typed}
 use Rattle.gimple_claims.proofs.Checked.{ok_same}
@@ -64,7 +64,7 @@ abbrev fine : World → Result World TrapKind
 fine w = Ok w
 
 module _ (p : Program) (n : ℕ) (f : Function) (facts : Facts) (most : ℕ) (ts : List ℤ) (law : IsLawful ts) (serial : ℕ) (cells : List Cell) (row : List AbsVal)
-    (k : keys cells ≡ register_keys (f.params ++ f.registers)) (t : cells_typed cells ≡ true) (fits : RowFits most ts (length (f.params ++ f.registers)) row) (h : RowHolds row cells)
+    (k : keys cells ≡ f.params ++ f.registers) (t : cells_typed cells ≡ true) (fits : RowFits most ts (length (f.params ++ f.registers)) row) (h : RowHolds row cells)
     (loads : LoadsFit (body_of p n f facts most ts)) where
   abbrev B : Body
   B = body_of p n f facts most ts
@@ -247,7 +247,7 @@ assign_cells d w to v e = let same : assign d to v ≡ w = cc in ap (λ (z : Wor
 -- ---- each statement that is no call
 
 module _ (p : Program) (n : ℕ) (f : Function) (facts : Facts) (most : ℕ) (ts : List ℤ) (law : IsLawful ts) (serial : ℕ) (d w : World) (row : List AbsVal)
-    (k : keys d.cells ≡ register_keys (f.params ++ f.registers)) (t : cells_typed d.cells ≡ true) (fits : RowFits most ts (length (f.params ++ f.registers)) row) (h : RowHolds row d.cells)
+    (k : keys d.cells ≡ f.params ++ f.registers) (t : cells_typed d.cells ≡ true) (fits : RowFits most ts (length (f.params ++ f.registers)) row) (h : RowHolds row d.cells)
     (loads : LoadsFit (body_of p n f facts most ts)) (j i : ℕ) (after : cells_typed w.cells ≡ true) where
   abbrev B2 : Body
   B2 = body_of p n f facts most ts
@@ -327,7 +327,7 @@ module _ (p : Program) (n : ℕ) (f : Function) (facts : Facts) (most : ℕ) (ts
 -- ---- calls
 
 pub call_holds : (p : Program) (n : ℕ) (f : Function) (facts : Facts) (most : ℕ) (ts : List ℤ) (law : IsLawful ts) (serial : ℕ) (cells : List Cell) (row : List AbsVal)
-    (k : keys cells ≡ register_keys (f.params ++ f.registers)) (t : cells_typed cells ≡ true) (fits : RowFits most ts (length (f.params ++ f.registers)) row) (h : RowHolds row cells)
+    (k : keys cells ≡ f.params ++ f.registers) (t : cells_typed cells ≡ true) (fits : RowFits most ts (length (f.params ++ f.registers)) row) (h : RowHolds row cells)
     (loads : LoadsFit (body_of p n f facts most ts)) (j i : ℕ) (names : Names Function) (to : Option (List ℕ)) (callee : List ℕ) (arguments : List Operand) (v : Option Value) →
     s.called (env_of p f) names to callee arguments ≡ Ok tt → cells_typed (given cells to v) ≡ true → FileHolds (after_stmt (body_of p n f facts most ts) j i (Call to callee arguments) row) (given cells to v)
 unfolding s.called after_stmt result_value value_in

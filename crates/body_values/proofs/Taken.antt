@@ -31,7 +31,7 @@ use Rattle.gimple_core.specs.Statements as s
 use Rattle.gimple_core.proofs.NameLemmas.{same_name_true}
 use Rattle.gimple_claims.proofs.Checked.{ok_same}
 use Rattle.gimple_core.proofs.Passed.{err_no, first_passed, demanded}
-use Rattle.gimple_claims.specs.Laws.{keys, register_keys}
+use Rattle.gimple_claims.specs.Laws.{keys}
 use Rattle.gimple_claims.specs.Checks.{env_of}
 use Rattle.gimple_claims.specs.Typed.{cells_typed}
 use Rattle.fix_engine.specs.declared.lifted.Lifted.{Lifted}
@@ -229,7 +229,7 @@ not_pointer false h = refl
 -- ---- taken ends
 
 module _ (p : Program) (n : ℕ) (f : Function) (facts : Facts) (most : ℕ) (ts : List ℤ) (law : IsLawful ts) (serial : ℕ) (cells : List Cell)
-    (k : keys cells ≡ register_keys (f.params ++ f.registers)) (t : cells_typed cells ≡ true) (loads : LoadsFit (body_of p n f facts most ts)) where
+    (k : keys cells ≡ f.params ++ f.registers) (t : cells_typed cells ≡ true) (loads : LoadsFit (body_of p n f facts most ts)) where
   abbrev B : Body
   B = body_of p n f facts most ts
 

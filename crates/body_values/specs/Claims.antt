@@ -1,15 +1,12 @@
 -- What the values of a body promise of its runs.
-use Rattle.std.specs.Prelude.{◌≡◌, ℕ, ◌+◌, ℤ, true, List, [], ◌∷◌, None, IfSome, slice_get, unwrap_or}
-use Rattle.std.specs.List.{list_all}
-use Rattle.gimple_ir.specs.declared.scalar.Scalar.TheVariants.{I64}
+use Rattle.std.specs.Prelude.{◌≡◌, ℕ, ◌+◌, ℤ, List, [], ◌∷◌, None, IfSome, slice_get, unwrap_or}
 use Rattle.gimple_ir.specs.declared.value.Value.{Value}
 use Rattle.gimple_ir.specs.declared.declarations.Register.{Register}
 use Rattle.gimple_ir.specs.declared.program.Function.{Function}
 use Rattle.gimple_ir.specs.declared.program.Program.{Program}
 use Rattle.gimple_core.specs.declared.machine.Cell.{Cell}
-use Rattle.gimple_core.specs.Operators.{in_scalar}
 use Rattle.gimple_core.specs.State.{zero_of}
-use Rattle.gimple_core.specs.Trace.{Event, Entry, At, Load, Store, Leave, Trace, EachAfter}
+use Rattle.gimple_core.specs.Trace.{Event, Entry, At, Load, Store, Leave, InEachRun}
 use Rattle.gimple_core.specs.Accepted.{first_fault}
 use Rattle.gimple_claims.specs.Bodies.{Facts as Given, Meets, FactsClaim}
 use Rattle.fix_engine.specs.declared.lifted.Lifted.{Lifted}
@@ -59,10 +56,6 @@ PointsHold p n f facts most ts xs past (At c w) = c.function ≡ f → FileHolds
 PointsHold p n f facts most ts xs past (Load c scalar object offset v) = Unit {0}
 PointsHold p n f facts most ts xs past (Store c scalar object offset v) = Unit {0}
 PointsHold p n f facts most ts xs past (Leave serial) = Unit {0}
-
--- each event, with what happened before it, of each run on numbers of i64
-abbrev pub InEachRun : Program → (List Event → Event → Type 0) → Type 0
-InEachRun p Q = (input : List ℤ) → list_all (in_scalar I64) input ≡ true → (turns : ℕ) → EachAfter Q [] (Trace p input turns)
 
 -- the values of a function of a program without a type fault, for facts that fit
 pub record Analysed (p : Program) (n : ℕ) (f : Function) (facts : Facts) (most : ℕ) (ts : List ℤ) (xs : List (Lifted (List AbsVal))) : Type 0 where

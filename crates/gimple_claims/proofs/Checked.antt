@@ -1,23 +1,19 @@
 -- From an accepted program to the checks of each of its functions.
-use Rattle.std.proofs.Common.{◌≡◌, ℕ, ◌+◌, Bool, true, false, not, List, [], ◌∷◌, ◌++◌, map, length, sym, ◌∙◌, ap, subst, append_assoc, append-nil, Option, Some, None, Ok, if◌then◌else◌}
-use Rattle.std.specs.Prelude.{nat_le}
+use Rattle.std.proofs.Common.{◌≡◌, ℕ, ◌+◌, Bool, true, false, not, List, [], ◌∷◌, ◌++◌, map, length, sym, ◌∙◌, subst, append_assoc, append-nil, Option, Some, None, Ok, if◌then◌else◌}
 use Rattle.std.specs.List.{find}
 use Rattle.gimple_ir.specs.declared.declarations.Register.{Register}
 use Rattle.gimple_ir.specs.declared.declarations.Decl.{Decl}
-use Rattle.gimple_ir.specs.declared.declarations.StructDef.{StructDef}
-use Rattle.gimple_ir.specs.declared.declarations.Global.{Global}
 use Rattle.gimple_ir.specs.declared.statement.Stmt.{Stmt}
 use Rattle.gimple_ir.specs.declared.block.Block.{Block}
 use Rattle.gimple_ir.specs.declared.program.Function.{Function}
 use Rattle.gimple_ir.specs.declared.program.Program.{Program}
-use Rattle.gimple_core.specs.Layout.{layout_of}
 use Rattle.gimple_core.specs.Run.{function_named}
 use Rattle.gimple_core.specs.Verdict.{pure, demand, at}
 use Rattle.gimple_core.specs.Env.{Env, Names, has, declared, globals_by_name, functions_by_name, decls_by_name, registers_by_name}
 use Rattle.gimple_core.specs.Statements as s
 use Rattle.gimple_core.specs.Declarations as d
 use Rattle.gimple_core.specs.Accepted.{checked, first_fault, known_env}
-use Rattle.gimple_core.proofs.ProgramTyped.{labels_are}
+use Rattle.gimple_core.proofs.ProgramTyped.{labels_are, globals_are}
 use Rattle.gimple_core.proofs.Passed.{first_passed, demanded, at_passed, no_fault}
 use Rattle.gimple_core.proofs.EnvLemmas.{declared_new}
 use Rattle.gimple_core.proofs.KeptAccepted.{heads_are, Each}
@@ -90,26 +86,6 @@ sees known env names f h =
           ∙ (λ i. record (a i) { locals = (a i).locals ++ decls_by_name f.locals; registers = (a i).registers ++ registers_by_name f.registers; labels = map (λ b. b.label) f.blocks })));
     }
 
--- ---- globals
-
-global_made : (structs : List StructDef) (all earlier out : Names Global) (g : Global) → d.one_global structs all earlier g ≡ Ok out → out ≡ earlier ++ (g.decl.name, g) ∷ []
-unfolding d.one_global
-global_made structs all earlier out g h =
-    let more = first_passed (declared earlier g.decl.name g) _ out h in
-    let shape = first_passed (d.known_shape _ g.decl.shape) _ out more.2 in
-    let size = first_passed (d.sized structs g.decl) _ out shape.2 in
-    let count = first_passed (demand (nat_le (length g.items) (length (layout_of structs g.decl).slots)) 11) _ out size.2 in
-    let items = first_passed (d.items all (layout_of structs g.decl).slots g.items) _ out count.2 in
-    sym (ok_same items.2) ∙ (declared_new earlier g.decl.name g more.0 more.1).1
-
-pub globals_made : (structs : List StructDef) (all : Names Global) (number : ℕ) (earlier out : Names Global) (gs : List Global) → d.globals structs all number earlier gs ≡ Ok out → out ≡ earlier ++ globals_by_name gs
-unfolding d.globals
-globals_made structs all number earlier out [] h = sym (ok_same h) ∙ sym (append-nil earlier)
-globals_made structs all number earlier out (g ∷ gs) h =
-    let p = first_passed (at _ (d.one_global structs all earlier g)) _ out h in
-    let q = global_made structs all earlier p.0 g (at_passed _ (d.one_global structs all earlier g) p.0 p.1) in
-    globals_made structs all (number + 1) p.0 out gs p.2 ∙ (ap (λ t. t ++ globals_by_name gs) q ∙ append_assoc earlier ((g.decl.name, g) ∷ []) (globals_by_name gs))
-
 -- ---- bodies
 
 body_passes : (env : Env) (names : Names Function) (index number : ℕ) (xs : List Stmt) → s.body env names index number xs ≡ Ok tt → StmtsPass env names xs
@@ -153,7 +129,7 @@ module _ (p : Program) where
       let b = first_passed (d.globals p.structs (globals_by_name p.globals) 0 [] p.globals) _ tt a.2 in
       let c = first_passed (d.heads b.0 0 [] p.functions) _ tt b.2 in
       let m = first_passed (d.main 0 p.functions) _ tt c.2 in
-      let variables = globals_made p.structs (globals_by_name p.globals) 0 [] b.0 p.globals b.1 in
+      let variables = globals_are p.structs (globals_by_name p.globals) 0 [] b.0 p.globals b.1 in
       let callees = heads_are b.0 0 [] c.0 p.functions c.1 in
       functions_checked 0 p.functions (subst (λ t. d.functions (known_env p.structs (globals_by_name p.globals)) t 0 p.functions ≡ Ok tt) callees
       (subst (λ v. d.functions (known_env p.structs v) c.0 0 p.functions ≡ Ok tt) variables m.2))

@@ -7,7 +7,7 @@ use Rattle.gimple_core.specs.Run.{Reached, Moves, Stops, Traps, Did, Goes, Reach
 use Rattle.gimple_core.proofs.Simulation.{KeepsRest, perform_rest}
 use Rattle.gimple_core.proofs.StepLemmas.{same_told}
 pub use Rattle.gimple_claims.specs.Runs.{Comes, begins, goes, moves}
-use Rattle.gimple_core.specs.Trace.{Event, told_by, told, access, events_after, walk_events, events_on, events, main_entry, events_from, Trace, EachAfter, after, InEveryRun}
+use Rattle.gimple_core.specs.Trace.{Event, told_by, told, access, events_after, walk_events, events_on, events, main_entry, events_from, EachAfter, after}
 
 abbrev pub InReached : (State → Type 0) → Reached → Type 0
 InReached I (Moves k t) = I t
@@ -124,7 +124,3 @@ each_event p input Q all (suc n) past s c =
 pub in_run_of : (p : Program) (input : List ℤ) (Q : List Event → Event → Type 0) → AtEach p input Q → (n : ℕ) (o : Option State) → start p input ≡ o → ((s : State) → o ≡ Some s → Q [] (main_entry p s)) → EachAfter Q [] (events_from p n o)
 in_run_of p input Q all n None e first = tt
 in_run_of p input Q all n (Some s) e first = (first s refl, each_event p input Q all n _ s (begins s e))
-
-pub in_every_run : (p : Program) (Q : List Event → Event → Type 0) → ((input : List ℤ) (s : State) → start p input ≡ Some s → Q [] (main_entry p s)) → ((input : List ℤ) → AtEach p input Q) → InEveryRun p Q
-unfolding Trace
-in_every_run p Q first all = record { each = λ input n. in_run_of p input Q (all input) n (start p input) refl (first input) }

@@ -9,7 +9,8 @@ use Rattle.gimple_core.specs.State.{State, scope_of}
 use Rattle.gimple_core.specs.Run.{step, stepped, Did, Reaches, Moves, CallEntry, Calling, call_of, values_of}
 use Rattle.gimple_core.specs.Trace.{Event, Entry, At, told, told_by, after}
 use Rattle.gimple_claims.specs.Runs.{Comes}
-use Rattle.gimple_claims.specs.Instances.{Instances, instance, body_from, Specialises}
+use Rattle.gimple_claims.specs.Kept.{new_body}
+use Rattle.gimple_claims.specs.Instances.{Instances, instance, Specialises}
 use Rattle.gimple_core.proofs.Simulation.{Does}
 use Rattle.gimple_claims.proofs.Activation.{told_call}
 use Rattle.gimple_claims.proofs.Instances.{Alike, alike, instance_beside}
@@ -33,7 +34,7 @@ module _ (I : Instances) (Fits : List Event → ℕ → ℕ → Type 0) (p : Pro
   arguments_same : (past hist : List Event) (s t : State) (x : Stmt) (xs : List Stmt) (c : Calling) (y : Stmt) (ys : List Stmt) (d : Calling) → Comes p input past s → (k : Alike I Fits p gs input spec past hist s t) → s.top.rest ≡ x ∷ xs → call_of x ≡ Some c → t.top.rest ≡ y ∷ ys → call_of y ≡ Some d →
       values_of p.globals (scope_of s.top) s.world.cells c.arguments ≡ values_of p.globals (scope_of t.top) t.world.cells d.arguments
   arguments_same past hist s t x xs c y ys d comes k e n f m =
-      let rests : y ∷ ys ≡ I.put k.top.number s.top.block s.top.index x ∷ body_from I k.top.number s.top.block (s.top.index + 1) xs = sym f ∙ (k.top.rest ∙ ap (body_from I k.top.number s.top.block s.top.index) e) in
+      let rests : y ∷ ys ≡ I.put k.top.number s.top.block s.top.index x ∷ new_body (I.put k.top.number) s.top.block (s.top.index + 1) xs = sym f ∙ (k.top.rest ∙ ap (new_body (I.put k.top.number) s.top.block s.top.index) e) in
       let same : y ≡ I.put k.top.number s.top.block s.top.index x = cc in
       let stands = spec.stmt past s x xs k.top.number comes k.top.source k.top.fits e in
       let g = stands.call c n in

@@ -1,5 +1,5 @@
 -- The file at a point, as a relation and as a function.
-use Rattle.std.proofs.Common.{◌≡◌, ℕ, ◌+◌, ◌<◌, ◌==◌, List, [], ◌∷◌, ◌++◌, refl, sym, ◌∙◌, ap, subst, append_assoc, append-nil, length, length-append, take, Option, Some, arith, slice_get, rules, IsSomeAnd}
+use Rattle.std.proofs.Common.{◌≡◌, ℕ, ◌+◌, ◌<◌, ◌==◌, List, [], ◌∷◌, ◌++◌, refl, sym, ◌∙◌, ap, subst, append_assoc, length, length-append, take, Option, Some, arith, slice_get, rules}
 use Rattle.std.specs.List.{position_or_len}
 use Rattle.std.proofs.lemmas.List.Folds.{find_at}
 use Rattle.std.proofs.lemmas.Option.{slice_get_within}
@@ -9,7 +9,7 @@ use Rattle.gimple_ir.specs.declared.block.Block.{Block}
 use Rattle.gimple_ir.specs.declared.statement.Stmt.{Stmt}
 use Rattle.gimple_ir.specs.declared.block.End.{End}
 use Rattle.gimple_core.specs.Run.{block_at, block_place, place_or}
-use Rattle.gimple_claims.specs.Bodies.{BodyFlow, IsBlock, first, jumped, StateAt, begin, next, Allows, IsSolution, and_then, carried, body_of, file_at, file_after}
+use Rattle.gimple_claims.specs.Bodies.{BodyFlow, IsBlock, first, jumped, StateAt, begin, next, and_then, carried, body_of, file_at}
 
 pub place_of_block : (label : ℕ) (bs : List Block) (b : Block) → block_at label bs ≡ Some b → slice_get bs (place_or (block_place label bs)) ≡ Some b
 place_of_block label bs b e =
@@ -58,21 +58,3 @@ file_is f F sol k i xs e a at =
     (ap (λ ys. carried F.flow k 0 (take i ys) (sol k)) h.body ∙
     (ap (λ n. carried F.flow k 0 (take n (h.done ++ xs)) (sol k)) (sym h.index) ∙
     (ap (λ ys. carried F.flow k 0 ys (sol k)) (take-append_seam h.done xs) ∙ h.file)))
-
-pub file_ends : {A : Type 0} (f : Function) (F : BodyFlow A) (sol : ℕ → Option A) (k i : ℕ) (e : End) (a : A) → StateAt f F sol k i [] e a → file_after F sol f.blocks k ≡ Some a
-unfolding file_after
-file_ends f F sol k i e a at =
-    let h : Placed f F sol k i [] e a = placed f F sol k i [] e a at in
-    ap (λ o. carried F.flow k 0 (body_of o) (sol k)) h.found ∙
-    (ap (λ ys. carried F.flow k 0 ys (sol k)) (h.body ∙ append-nil h.done) ∙ h.file)
-
--- a solution by blocks, as an engine gives it: an edge carries the file through the whole body and then the end
-pub solution_by_blocks : {A : Type 0} (f : Function) (F : BodyFlow A) (sol : ℕ → Option A) → ((a : A) → F.begin ≡ Some a → IsSomeAnd (sol 0) (Allows F a)) →
-    ((k label : ℕ) (b : Block) (c : A) → slice_get f.blocks k ≡ Some b → and_then (carried F.flow k 0 b.body (sol k)) (F.edge b.end label) ≡ Some c → IsSomeAnd (sol (place_or (block_place label f.blocks))) (Allows F c)) → IsSolution f F sol
-solution_by_blocks f F sol starts flows = record {
-  starts = starts;
-  flows = λ k i e a c label at g.
-      let h : Placed f F sol k i [] e a = placed f F sol k i [] e a at in
-      let whole : carried F.flow k 0 h.block.body (sol k) ≡ Some a = ap (λ ys. carried F.flow k 0 ys (sol k)) (h.body ∙ append-nil h.done) ∙ h.file in
-      flows k label h.block c h.found (ap (λ o. and_then o (F.edge h.block.end label)) whole ∙ (ap (λ z. F.edge z label a) (sym h.end) ∙ g));
-}

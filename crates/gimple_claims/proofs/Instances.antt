@@ -15,7 +15,8 @@ use Rattle.gimple_core.specs.Run.{step, stepped, start, compares, case_for, any_
 use Rattle.gimple_core.specs.Trace.{Event, main_entry, told, after}
 use Rattle.gimple_claims.specs.Runs.{Comes}
 use Rattle.gimple_claims.specs.Exits.{Exit, ToLabel, Returns, exit_of}
-use Rattle.gimple_claims.specs.Instances.{Instances, instance, body_from, AreMade, BeginAlike, CalleesAlike, StandsFor, MainsAlike, Specialises}
+use Rattle.gimple_claims.specs.Kept.{new_body}
+use Rattle.gimple_claims.specs.Instances.{Instances, instance, AreMade, BeginAlike, CalleesAlike, StandsFor, MainsAlike, Specialises}
 use Rattle.gimple_claims.proofs.Activation.{own_name}
 use Rattle.gimple_claims.proofs.Along.{StepsAlike, StartAlike, run_alike, Beside, beside}
 use Rattle.gimple_core.proofs.Simulation.{Matches, Does}
@@ -28,7 +29,7 @@ module _ (I : Instances) (Fits : List Event → ℕ → ℕ → Type 0) (p : Pro
     pub number : ℕ
     pub source : I.source number ≡ c.function
     pub function : d.function ≡ instance I number
-    pub rest : d.rest ≡ body_from I number c.block c.index c.rest
+    pub rest : d.rest ≡ new_body (I.put number) c.block c.index c.rest
     pub end : d.end ≡ I.end number c.block c.end
     pub serial : d.serial ≡ c.serial
     pub takes : d.takes ≡ c.takes
@@ -68,7 +69,7 @@ module _ (I : Instances) (Fits : List Event → ℕ → ℕ → Type 0) (p : Pro
 
   -- ---- statements
 
-  resumed_alike : (past hist : List Event) (s t : State) (x : Stmt) (xs ys : List Stmt) → Comes p input past s → (k : Alike past hist s t) → ys ≡ body_from I k.top.number s.top.block (s.top.index + 1) xs → AlikeControl (after past (told p s)) s.next (resumed s xs).top (resumed t ys).top
+  resumed_alike : (past hist : List Event) (s t : State) (x : Stmt) (xs ys : List Stmt) → Comes p input past s → (k : Alike past hist s t) → ys ≡ new_body (I.put k.top.number) s.top.block (s.top.index + 1) xs → AlikeControl (after past (told p s)) s.next (resumed s xs).top (resumed t ys).top
   resumed_alike past hist s t x xs ys comes k e = record { number = k.top.number; source = k.top.source; function = k.top.function; rest = e; end = k.top.end; serial = k.top.serial; takes = k.top.takes; fits = spec.keeps past s s.top.serial k.top.number comes k.top.older k.top.fits; older = k.top.older }
 
   acted_alike : (past hist now later : List Event) (s t : State) (xs ys : List Stmt) (r : Result World TrapKind) → AlikeControl now s.next (resumed s xs).top (resumed t ys).top → AlikeFrames now s.next s.below t.below → Alike past hist s t → Does (Alike now later) (acted (resumed s xs) r) (acted (resumed t ys) r)
@@ -102,7 +103,7 @@ module _ (I : Instances) (Fits : List Event → ℕ → ℕ → Type 0) (p : Pro
       (subst (λ (h : Function). Matches (Alike (after past (told p s)) later) (entered p.structs (resumed s xs) c.to vs (I.source e.number) (I.source e.number).blocks) (entered p.structs (resumed t ys) c.to vs h h.blocks)) same
       (entered_alike past hist (after past (told p s)) later s t xs ys c.to vs e.number (I.source e.number).blocks (I.blocks e.number) k a b (spec.begin e.number own) (λ u x. e.fits u (there ∙ ap Reaches x))))
 
-  performed_alike : (past hist later : List Event) (s t : State) (x y : Stmt) (xs ys : List Stmt) → Comes p input past s → (k : Alike past hist s t) → ys ≡ body_from I k.top.number s.top.block (s.top.index + 1) xs → StandsFor I Fits p made past s x y →
+  performed_alike : (past hist later : List Event) (s t : State) (x y : Stmt) (xs ys : List Stmt) → Comes p input past s → (k : Alike past hist s t) → ys ≡ new_body (I.put k.top.number) s.top.block (s.top.index + 1) xs → StandsFor I Fits p made past s x y →
       (o r : Option Calling) → call_of x ≡ o → call_of y ≡ r → step p s ≡ performed p o x (resumed s xs) → Does (Alike (after past (told p s)) later) (performed p o x (resumed s xs)) (performed made r y (resumed t ys))
   performed_alike past hist later s t x y xs ys comes k e f None None a b st =
       let same : act p.globals (scope_of t.top) y t.world ≡ act p.globals (scope_of s.top) x s.world = (λ i. act p.globals (scope_same past s.next s.top t.top k.top i) y (k.world i)) ∙ (f.act a).1 in
@@ -191,10 +192,10 @@ module _ (I : Instances) (Fits : List Event → ℕ → ℕ → Type 0) (p : Pro
 
   -- ---- the step
 
-  stepped_alike : (past hist later : List Event) (s t : State) → Comes p input past s → (k : Alike past hist s t) → (xs : List Stmt) → s.top.rest ≡ xs → step p s ≡ stepped p s xs → Does (Alike (after past (told p s)) later) (stepped p s xs) (stepped made t (body_from I k.top.number s.top.block s.top.index xs))
+  stepped_alike : (past hist later : List Event) (s t : State) → Comes p input past s → (k : Alike past hist s t) → (xs : List Stmt) → s.top.rest ≡ xs → step p s ≡ stepped p s xs → Does (Alike (after past (told p s)) later) (stepped p s xs) (stepped made t (new_body (I.put k.top.number) s.top.block s.top.index xs))
   stepped_alike past hist later s t comes k [] e st = finish_alike past hist later s t comes k e
   stepped_alike past hist later s t comes k (x ∷ xs) e st =
-      performed_alike past hist later s t x (I.put k.top.number s.top.block s.top.index x) xs (body_from I k.top.number s.top.block (s.top.index + 1) xs) comes k refl
+      performed_alike past hist later s t x (I.put k.top.number s.top.block s.top.index x) xs (new_body (I.put k.top.number) s.top.block (s.top.index + 1) xs) comes k refl
       (spec.stmt past s x xs k.top.number comes k.top.source k.top.fits e) (call_of x) (call_of (I.put k.top.number s.top.block s.top.index x)) refl refl st
 
   pub alike : StepsAlike p made input Alike

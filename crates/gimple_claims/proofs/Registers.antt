@@ -1,5 +1,5 @@
 -- Each frame has the registers of its function.
-use Rattle.std.proofs.Common.{◌≡◌, ℕ, ◌+◌, ℤ, List, [], ◌∷◌, ◌++◌, refl, sym, ◌∙◌, ap, subst, Option, Some, None}
+use Rattle.std.proofs.Common.{◌≡◌, ℕ, ◌+◌, ℤ, List, [], ◌∷◌, ◌++◌, refl, ◌∙◌, ap, subst, Option, Some, None}
 use Rattle.std.proofs.lemmas.List.{map-append}
 use Rattle.gimple_ir.specs.declared.declarations.Register.{Register}
 use Rattle.gimple_ir.specs.declared.value.Value.{Value}
@@ -11,7 +11,7 @@ use Rattle.gimple_core.specs.Names.{same_name}
 use Rattle.gimple_core.specs.State.{World, State, assigned, scope_of}
 use Rattle.gimple_core.specs.Run.{Did, step, given, cells_made, function_named, main_name, begun, begun_by}
 use Rattle.gimple_core.specs.Trace.{Event, told, after}
-use Rattle.gimple_claims.specs.Laws.{keys, register_keys, FramesHaveRegisters, StateHasRegisters, RegistersAreDeclared}
+use Rattle.gimple_claims.specs.Laws.{keys, FramesHaveRegisters, StateHasRegisters, RegistersAreDeclared}
 use Rattle.gimple_claims.proofs.Comes.{InDid, holds}
 use Rattle.gimple_claims.proofs.Steps.{Steps, acts, calls, jumps, leaves, stops, traps, step_is}
 use Rattle.gimple_claims.proofs.Acts.{Acts, assigns, takes, prints, stores, acts_is}
@@ -31,16 +31,15 @@ given_keys cells None v = refl
 given_keys cells (Some name) None = refl
 given_keys cells (Some name) (Some v) = assigned_keys cells name v
 
-made_keys : (rs : List Register) (vs : List Value) (k : ℕ) → keys (cells_made rs vs k) ≡ register_keys rs
+made_keys : (rs : List Register) (vs : List Value) (k : ℕ) → keys (cells_made rs vs k) ≡ rs
 unfolding cells_made
 made_keys [] vs k = refl
-made_keys (r ∷ rs) vs k = ap (λ ks. record { name = r.name; scalar = r.scalar } ∷ ks) (made_keys rs vs (k + 1))
+made_keys (r ∷ rs) vs k = ap (λ ks. r ∷ ks) (made_keys rs vs (k + 1))
 
-entered_keys : (f : Function) (vs : List Value) → keys (cells_made f.params vs 0 ++ cells_made f.registers [] 0) ≡ register_keys (f.params ++ f.registers)
+entered_keys : (f : Function) (vs : List Value) → keys (cells_made f.params vs 0 ++ cells_made f.registers [] 0) ≡ f.params ++ f.registers
 entered_keys f vs =
     map-append (λ (c : Cell). record { name = c.name; scalar = c.scalar }) (cells_made f.params vs 0) (cells_made f.registers [] 0)
-    ∙ ((λ i. made_keys f.params vs 0 i ++ made_keys f.registers [] 0 i)
-    ∙ sym (map-append (λ (r : Register). record { name = r.name; scalar = r.scalar }) f.params f.registers))
+    ∙ (λ i. made_keys f.params vs 0 i ++ made_keys f.registers [] 0 i)
 
 abbrev Has : List Event → State → Type 0
 Has past s = StateHasRegisters s

@@ -39,7 +39,7 @@ use Rattle.gimple_core.proofs.Passed.{err_no, first_passed, demanded, at_passed,
 use Rattle.gimple_core.proofs.EnvLemmas.{named_find}
 use Rattle.gimple_core.proofs.ScalarLemmas.{same_scalar_true, pointer_is}
 use Rattle.gimple_claims.specs.Exits.{Returns, exit_of}
-use Rattle.gimple_claims.specs.Laws.{keys, register_keys, StateHasRegisters}
+use Rattle.gimple_claims.specs.Laws.{keys, StateHasRegisters}
 use Rattle.gimple_claims.specs.Checks.{env_of, StmtsPass}
 use Rattle.gimple_claims.specs.Typed.{is_of, cells_typed, slots_typed, FramesTyped, ValuesAreTyped}
 use Rattle.gimple_claims.proofs.Comes.{InDid, holds_with}
@@ -63,7 +63,7 @@ get_seam : (pre : List Value) (v : Value) (vs : List Value) → slice_get (pre +
 get_seam [] v vs = refl
 get_seam (x ∷ pre) v vs = get_seam pre v vs
 
-module _ (p : Program) (f : Function) (globals : List Global) (t : State) (k : keys t.world.cells ≡ register_keys (f.params ++ f.registers)) (c : cells_typed t.world.cells ≡ true) where
+module _ (p : Program) (f : Function) (globals : List Global) (t : State) (k : keys t.world.cells ≡ f.params ++ f.registers) (c : cells_typed t.world.cells ≡ true) where
   made_from : (formals : List Register) (xs : List Operand) (pre : List Value) → s.arguments (env_of p f) formals xs ≡ Ok tt → length xs ≡ length formals →
       cells_typed (cells_made formals (pre ++ map (value_of globals (scope_of t.top) t.world.cells) xs) (length pre)) ≡ true
   unfolding s.arguments cells_made
@@ -169,7 +169,7 @@ given_typed cells None result v t l h = t
 given_typed cells (Some name) result None t l h = t
 given_typed cells (Some name) result (Some v) t l h = assigned_is cells name l.0 v t l.2 (h l.0 l.1)
 
-module _ (p : Program) (f : Function) (globals : List Global) (t : State) (k : keys t.world.cells ≡ register_keys (f.params ++ f.registers)) (c : cells_typed t.world.cells ≡ true) where
+module _ (p : Program) (f : Function) (globals : List Global) (t : State) (k : keys t.world.cells ≡ f.params ++ f.registers) (c : cells_typed t.world.cells ≡ true) where
   operand_result : (operand : Option Operand) (result : Option Scalar) → s.returned (env_of p f) operand result ≡ Ok tt → ResultIs result (return_value globals t operand)
   unfolding s.returned
   operand_result None result h = tt

@@ -30,7 +30,7 @@ use Rattle.gimple_core.specs.Statements as s
 use Rattle.gimple_core.proofs.Passed.{first_passed, demanded}
 use Rattle.gimple_core.proofs.RangeLemmas.{wrapped_in}
 use Rattle.gimple_core.proofs.ScalarLemmas.{same_scalar_true}
-use Rattle.gimple_claims.specs.Laws.{keys, register_keys}
+use Rattle.gimple_claims.specs.Laws.{keys}
 use Rattle.gimple_claims.specs.Checks.{env_of}
 use Rattle.gimple_claims.specs.Typed.{is_of, cells_typed, slots_typed}
 use Rattle.gimple_claims.proofs.Lists.{found_test, found_has, all_updated, all_at}
@@ -96,7 +96,7 @@ abbrev ActIs : Result World TrapKind → Type 0
 ActIs (Ok w) = WorldTyped w
 ActIs (Err k) = Unit {0}
 
-module _ (p : Program) (f : Function) (globals : List Global) (scope : Scope) (m : World) (k : keys m.cells ≡ register_keys (f.params ++ f.registers)) (t : WorldTyped m) (input : list_all (in_scalar I64) m.input ≡ true) where
+module _ (p : Program) (f : Function) (globals : List Global) (scope : Scope) (m : World) (k : keys m.cells ≡ f.params ++ f.registers) (t : WorldTyped m) (input : list_all (in_scalar I64) m.input ≡ true) where
   assign_is : (to : List ℕ) (scalar : Scalar) (v : Value) → scalar_of (env_of p f) to ≡ Ok scalar → is_of scalar v ≡ true → WorldTyped (assign m to v)
   assign_is to scalar v e h = record { cells = assigned_is m.cells to scalar v t.cells (has_cell p f m.cells to scalar k e) h; slots = t.slots }
 

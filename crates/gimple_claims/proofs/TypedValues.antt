@@ -27,7 +27,7 @@ use Rattle.gimple_core.proofs.Passed.{first_passed, demanded, found_so}
 use Rattle.gimple_core.proofs.EnvLemmas.{named_find}
 use Rattle.gimple_core.proofs.RangeLemmas.{wrapped_in, op_in}
 use Rattle.gimple_core.proofs.ScalarLemmas.{same_scalar_true, pointer_is}
-use Rattle.gimple_claims.specs.Laws.{Key, keys, register_keys}
+use Rattle.gimple_claims.specs.Laws.{keys}
 use Rattle.gimple_claims.specs.Checks.{env_of}
 use Rattle.gimple_claims.specs.Typed.{is_of, cells_typed}
 use Rattle.gimple_claims.proofs.Lists.{found_has}
@@ -101,16 +101,16 @@ address_is globals scope name = local_is scope.serial (position (λ d. same_name
 
 -- ---- registers
 
-abbrev first_key : Key → List Key → Key
+abbrev first_key : Register → List Register → Register
 first_key d [] = d
 first_key d (k ∷ ks) = k
 
-abbrev later_keys : List Key → List Key
+abbrev later_keys : List Register → List Register
 later_keys [] = []
 later_keys (k ∷ ks) = ks
 
 -- a register that the function has, among its cells
-cell_found : (rs : List Register) (cells : List Cell) (name : List ℕ) (r : Register) → keys cells ≡ register_keys rs → find (λ x. same_name x.name name) rs ≡ Some r → (c : Cell) × (cell_of name cells ≡ Some c) × (c.scalar ≡ r.scalar)
+cell_found : (rs : List Register) (cells : List Cell) (name : List ℕ) (r : Register) → keys cells ≡ rs → find (λ x. same_name x.name name) rs ≡ Some r → (c : Cell) × (cell_of name cells ≡ Some c) × (c.scalar ≡ r.scalar)
 cell_found [] cells name r k e = cc
 cell_found (x ∷ rs) [] name r k e = cc
 cell_found (x ∷ rs) (c ∷ cells) name r k e = by (same_name x.name name) (same_name c.name name) (ap (λ n. same_name n name) (sym same_names)) e (cell_found rs cells name r rest)
@@ -121,7 +121,7 @@ cell_found (x ∷ rs) (c ∷ cells) name r k e = by (same_name x.name name) (sam
     same_scalars : c.scalar ≡ x.scalar
     same_scalars = ap (λ ks. (first_key (record { name = name; scalar = Ptr }) ks).scalar) k
 
-    rest : keys cells ≡ register_keys rs
+    rest : keys cells ≡ rs
     rest = ap later_keys k
 
     by : (a b : Bool) → a ≡ b → (if a then Some x else find (λ y. same_name y.name name) rs) ≡ Some r → (find (λ y. same_name y.name name) rs ≡ Some r → (d : Cell) × (cell_of name cells ≡ Some d) × (d.scalar ≡ r.scalar)) → (d : Cell) × ((if b then Some c else cell_of name cells) ≡ Some d) × (d.scalar ≡ r.scalar)
@@ -135,7 +135,7 @@ pub record HasCell (cells : List Cell) (name : List ℕ) (scalar : Scalar) : Typ
   pub found : cell_of name cells ≡ Some cell
   pub scalar_is : cell.scalar ≡ scalar
 
-pub has_cell : (p : Program) (f : Function) (cells : List Cell) (name : List ℕ) (scalar : Scalar) → keys cells ≡ register_keys (f.params ++ f.registers) → scalar_of (env_of p f) name ≡ Ok scalar → HasCell cells name scalar
+pub has_cell : (p : Program) (f : Function) (cells : List Cell) (name : List ℕ) (scalar : Scalar) → keys cells ≡ f.params ++ f.registers → scalar_of (env_of p f) name ≡ Ok scalar → HasCell cells name scalar
 unfolding scalar_of
 has_cell p f cells name scalar k h =
     let r = first_passed (found (named name (env_of p f).registers) 1) _ scalar h in
@@ -155,7 +155,7 @@ scalar_there cells name scalar c = ap cell_scalar c.found ∙ c.scalar_is
 
 -- ---- operands
 
-module _ (p : Program) (f : Function) (globals : List Global) (scope : Scope) (cells : List Cell) (k : keys cells ≡ register_keys (f.params ++ f.registers)) (t : cells_typed cells ≡ true) where
+module _ (p : Program) (f : Function) (globals : List Global) (scope : Scope) (cells : List Cell) (k : keys cells ≡ f.params ++ f.registers) (t : cells_typed cells ≡ true) where
   pub operand_is : (wrong : ℕ) (scalar : Scalar) (x : Operand) → s.operand (env_of p f) wrong scalar x ≡ Ok tt → is_of scalar (value_of globals scope cells x) ≡ true
   unfolding s.operand
   operand_is wrong scalar (Reg name) h =

@@ -1,15 +1,14 @@
 -- Facts at the points of one body: what an analysis of a function promises, and of whom.
-use Rattle.std.specs.Prelude.{◌≡◌, ℕ, ◌+◌, take, slice_get, List, [], ◌∷◌, ◌++◌, Option, Some, None, Ok, IsSomeAnd}
+use Rattle.std.specs.Prelude.{◌≡◌, ℕ, ◌+◌, take, slice_get, List, [], ◌∷◌, Option, Some, None}
 use Rattle.gimple_ir.specs.declared.value.Value.{Value}
 use Rattle.gimple_ir.specs.declared.program.Function.{Function}
 use Rattle.gimple_ir.specs.declared.block.Block.{Block}
 use Rattle.gimple_ir.specs.declared.statement.Stmt.{Stmt}
 use Rattle.gimple_ir.specs.declared.block.End.{End}
-use Rattle.gimple_ir.specs.declared.program.Program.{Program}
 use Rattle.gimple_core.specs.declared.machine.Cell.{Cell}
-use Rattle.gimple_core.specs.State.{Control, World, State, scope_of}
-use Rattle.gimple_core.specs.Run.{Calling, call_of, act, given, target_of, block_at, block_place, place_or, cells_made}
-use Rattle.gimple_core.specs.Trace.{Event, Entry, At, Load, Store, Leave, accesses}
+use Rattle.gimple_core.specs.State.{Control}
+use Rattle.gimple_core.specs.Run.{block_at, block_place, place_or}
+use Rattle.gimple_core.specs.Trace.{Event, Entry, At, Load, Store, Leave}
 
 -- what is given of a function: its arguments, and the values that its loads give, by block and index
 pub record Facts : Type 1 where
@@ -58,36 +57,11 @@ pub data StateAt {A : Type 0} (f : Function) (F : BodyFlow A) (sol : ℕ → Opt
   begin : (k : ℕ) (b : Block) (a : A) → IsBlock f k b → sol k ≡ Some a → StateAt f F sol k 0 b.body b.end a
   next : (k i : ℕ) (x : Stmt) (xs : List Stmt) (e : End) (a c : A) → StateAt f F sol k i (x ∷ xs) e a → F.flow k i x a ≡ Some c → StateAt f F sol k (i + 1) xs e c
 
--- all that the first says, the second allows
-abbrev pub Allows : {A : Type 0} → BodyFlow A → A → A → Type 0
-Allows F a b = (cells : List Cell) → F.In a cells → F.In b cells
-
--- any solution; none of this asks for the least one
-pub record IsSolution {A : Type 0} (f : Function) (F : BodyFlow A) (sol : ℕ → Option A) : Type 0 where
-  pub starts : (a : A) → F.begin ≡ Some a → IsSomeAnd (sol 0) (Allows F a)
-  pub flows : (k i : ℕ) (e : End) (a c : A) (label : ℕ) → StateAt f F sol k i [] e a → F.edge e label a ≡ Some c → IsSomeAnd (sol (place_or (block_place label f.blocks))) (Allows F c)
-
--- each statement and each end does what the analysis says
-pub record IsSound {A : Type 0} (p : Program) (f : Function) (facts : Facts) (F : BodyFlow A) : Type 0 where
-  pub entry : (arguments : List Value) → facts.entry arguments → IsSomeAnd F.begin (λ a. F.In a (cells_made f.params arguments 0 ++ cells_made f.registers [] 0))
-  pub stmt : (s : State) (x : Stmt) (w : World) (a : A) → s.top.function ≡ f → call_of x ≡ None → F.In a s.world.cells → act p.globals (scope_of s.top) x s.world ≡ Ok w →
-      EachOf (MeetsAt f facts s.top.serial) (accesses p.globals x s) → IsSomeAnd (F.flow s.top.block s.top.index x a) (λ b. F.In b w.cells)
-  pub call : (k i : ℕ) (x : Stmt) (c : Calling) (a : A) (cells : List Cell) (v : Option Value) → call_of x ≡ Some c → F.In a cells → IsSomeAnd (F.flow k i x a) (λ b. F.In b (given cells c.to v))
-  pub edge : (s : State) (label : ℕ) (a : A) → F.In a s.world.cells → s.top.function ≡ f → target_of p.globals s.top.end s ≡ Some label → IsSomeAnd (F.edge s.top.end label a) (λ b. F.In b s.world.cells)
-
 -- the point is reached, and the registers are in its file
 pub record IsAt {A : Type 0} (f : Function) (F : BodyFlow A) (sol : ℕ → Option A) (c : Control) (cells : List Cell) : Type 0 where
   pub file : A
   pub state : StateAt f F sol c.block c.index c.rest c.end file
   pub within : F.In file cells
-
--- of one activation, whatever the others do
-abbrev pub PointsClaim : {A : Type 0} → Function → Facts → BodyFlow A → (ℕ → Option A) → List Event → Event → Type 0
-PointsClaim f facts F sol past (Entry s g arguments m caller) = Unit {0}
-PointsClaim f facts F sol past (At c w) = c.function ≡ f → Meets f facts c.serial past → IsAt f F sol c w.cells
-PointsClaim f facts F sol past (Load c scalar object offset v) = Unit {0}
-PointsClaim f facts F sol past (Store c scalar object offset v) = Unit {0}
-PointsClaim f facts F sol past (Leave s) = Unit {0}
 
 -- ---- the file at a point, as a function
 
@@ -107,7 +81,3 @@ body_of (Some b) = b.body
 -- the file at the point of this block and index
 unfoldable pub file_at : {A : Type 0} → BodyFlow A → (ℕ → Option A) → List Block → ℕ → ℕ → Option A
 file_at F sol blocks k i = carried F.flow k 0 (take i (body_of (slice_get blocks k))) (sol k)
-
--- the file at the end of this block
-unfoldable pub file_after : {A : Type 0} → BodyFlow A → (ℕ → Option A) → List Block → ℕ → Option A
-file_after F sol blocks k = carried F.flow k 0 (body_of (slice_get blocks k)) (sol k)

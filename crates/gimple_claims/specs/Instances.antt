@@ -1,5 +1,5 @@
 -- Functions that stand for others, several for one: each where its facts are met.
-use Rattle.std.specs.Prelude.{◌≡◌, ℕ, ◌+◌, ◌<◌, ℤ, List, [], ◌∷◌, Option, Some, None}
+use Rattle.std.specs.Prelude.{◌≡◌, ℕ, ◌<◌, ℤ, List, [], ◌∷◌, Option, Some, None}
 use Rattle.gimple_ir.specs.declared.program.Function.{Function}
 use Rattle.gimple_ir.specs.declared.block.Block.{Block}
 use Rattle.gimple_ir.specs.declared.statement.Stmt.{Stmt}
@@ -10,6 +10,7 @@ use Rattle.gimple_core.specs.Run.{Calling, call_of, act, values_of, function_nam
 use Rattle.gimple_core.specs.Trace.{Event, main_entry, told, after}
 use Rattle.gimple_claims.specs.Runs.{Comes}
 use Rattle.gimple_claims.specs.Exits.{ToLabel, exit_of}
+use Rattle.gimple_claims.specs.Kept.{new_body}
 
 -- the instances, by number: whose body each stands for, and what it is made of
 pub record Instances : Type 0 where
@@ -22,12 +23,8 @@ pub record Instances : Type 0 where
 abbrev pub instance : Instances → ℕ → Function
 instance I j = record (I.source j) { name = I.name j; blocks = I.blocks j }
 
-abbrev pub body_from : Instances → ℕ → ℕ → ℕ → List Stmt → List Stmt
-body_from I j k i [] = []
-body_from I j k i (x ∷ xs) = I.put j k i x ∷ body_from I j k (i + 1) xs
-
 pub record IsMade (I : Instances) (j k : ℕ) (b c : Block) : Type 0 where
-  pub body : c.body ≡ body_from I j k 0 b.body
+  pub body : c.body ≡ new_body (I.put j) k 0 b.body
   pub end : c.end ≡ I.end j k b.end
 
 abbrev pub AreMade : Instances → ℕ → ℕ → Option Block → Option Block → Type 0

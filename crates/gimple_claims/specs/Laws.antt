@@ -1,7 +1,6 @@
 -- What holds of each state that comes up in a run.
 use Rattle.std.specs.Prelude.{◌≡◌, ◌<◌, ◌+◌, ℕ, ◌==◌, ◌++◌, ℤ, Bool, true, List, [], ◌∷◌, map, filter, find, slice_get, Option, Some, None}
 use Rattle.std.specs.List.{list_any, list_all}
-use Rattle.gimple_ir.specs.declared.scalar.Scalar.{Scalar}
 use Rattle.gimple_ir.specs.declared.declarations.Global.{Global as GlobalDef}
 use Rattle.gimple_ir.specs.declared.declarations.Register.{Register}
 use Rattle.gimple_ir.specs.declared.value.Object.{Object}
@@ -95,19 +94,12 @@ GlobalsHold = (p : Program) (input : List ℤ) (past : List Event) (s : State) �
 
 -- ---- registers
 
-pub record Key : Type 0 where
-  pub name : List ℕ
-  pub scalar : Scalar
-
-abbrev pub keys : List Cell → List Key
+abbrev pub keys : List Cell → List Register
 keys cells = map (λ c. record { name = c.name; scalar = c.scalar }) cells
-
-abbrev pub register_keys : List Register → List Key
-register_keys rs = map (λ r. record { name = r.name; scalar = r.scalar }) rs
 
 -- the registers are the function's formals and registers, in their order
 abbrev pub HasRegisters : Control → List Cell → Type 0
-HasRegisters c cells = keys cells ≡ register_keys (c.function.params ++ c.function.registers)
+HasRegisters c cells = keys cells ≡ c.function.params ++ c.function.registers
 
 abbrev pub FramesHaveRegisters : List Frame → Type 0
 FramesHaveRegisters [] = Unit {0}

@@ -72,12 +72,6 @@ Does R (Goes s) (Reaches b) = ⊥
 Does R (Reaches a) (Goes t) = ⊥
 Does R (Reaches a) (Reaches b) = Matches R a b
 
--- the related states go on with these statements
-pub record Ahead (R : State → State → Type 0) (xs ys : List Stmt) (s t : State) : Type 0 where
-  pub related : R s t
-  pub first : s.top.rest ≡ xs
-  pub second : t.top.rest ≡ ys
-
 -- What stands for one statement: some of the second program's, after which the states are related again. `Does` asks for
 -- the relation alone, since no statement changes what is left of the body.
 pub record Stands (p q : Program) (R : State → State → Type 0) (s : State) (x : Stmt) (xs : List Stmt) (t : State) : Type 0 where

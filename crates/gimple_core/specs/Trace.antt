@@ -1,6 +1,8 @@
 -- The events of a run, and what it means that something holds of each of them.
-use Rattle.std.specs.Prelude.{ℕ, zero, suc, ℤ, Bool, true, false, if◌then◌else◌, List, [], ◌∷◌, ◌++◌, Option, Some, None, Result, Ok, Err}
+use Rattle.std.specs.Prelude.{◌≡◌, ℕ, zero, suc, ℤ, Bool, true, false, if◌then◌else◌, List, [], ◌∷◌, ◌++◌, Option, Some, None, Result, Ok, Err}
+use Rattle.std.specs.List.{list_all}
 use Rattle.gimple_ir.specs.declared.scalar.Scalar.{Scalar}
+use Rattle.gimple_ir.specs.declared.scalar.Scalar.TheVariants.{I64}
 use Rattle.gimple_ir.specs.declared.value.Value.{Value}
 use Rattle.gimple_ir.specs.declared.value.Object.{Object}
 use Rattle.gimple_ir.specs.declared.declarations.Global.{Global}
@@ -10,6 +12,7 @@ use Rattle.gimple_ir.specs.declared.statement.Stmt.TheVariants.{Load as LoadStmt
 use Rattle.gimple_ir.specs.declared.program.Program.{Program}
 use Rattle.gimple_ir.specs.declared.value.TrapKind.{TrapKind}
 use Rattle.gimple_core.specs.declared.machine.FoundSlot.{FoundSlot}
+use Rattle.gimple_core.specs.Operators.{in_scalar}
 use Rattle.gimple_core.specs.Memory.{Memory, found_at}
 use Rattle.gimple_core.specs.State.{Control, World, State, scope_of}
 use Rattle.gimple_core.specs.Run.{Jump, CallEntry, CallReturn, Reached, Moves, Stops, Traps, Did, Goes, Reaches, Calling, call_of, values_of, value_of, place_value, stepped, walk, start, with_globals, no_memory}
@@ -106,5 +109,6 @@ abbrev pub after : List Event → List Event → List Event
 after past [] = past
 after past (e ∷ es) = after (e ∷ past) es
 
-pub record InEveryRun (p : Program) (Q : List Event → Event → Type 0) : Type 0 where
-  pub each : (input : List ℤ) (n : ℕ) → EachAfter Q [] (Trace p input n)
+-- each event, with what happened before it, of each run on numbers of i64
+abbrev pub InEachRun : Program → (List Event → Event → Type 0) → Type 0
+InEachRun p Q = (input : List ℤ) → list_all (in_scalar I64) input ≡ true → (turns : ℕ) → EachAfter Q [] (Trace p input turns)
