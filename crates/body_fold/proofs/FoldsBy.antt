@@ -1,4 +1,4 @@
--- What is folded by the values that were found is folded by the least solution.
+-- What is folded by the values that were found is folded by a solution.
 use Rattle.std.proofs.Common.{◌≡◌, ℕ, suc, ◌+◌, ◌<◌, ℤ, Bool, true, if◌then◌else◌, List, [], ◌∷◌, length, refl, sym, ◌∙◌, ap, subst, arith, Option, Some, None, slice_get}
 use Rattle.std.proofs.lemmas.Bool.{le-leb}
 use Rattle.gimple_ir.specs.declared.statement.Stmt.{Stmt}
@@ -26,7 +26,7 @@ use Rattle.body_fold.specs.Folders.{folding_by}
 abbrev pub folding_of : Program → ℕ → Function → Facts → ℕ → List ℤ → Folding
 folding_of p n f facts most ts = record { env = env_of p f; names = functions_by_name p.functions; body = body_of p n f facts most ts }
 
--- The function of this number of a program without a type fault, folded by the least solution of its system.
+-- The function of this number of a program without a type fault, folded by a solution of its system.
 pub record FoldsBy (p : Program) (n : ℕ) (f : Function) (facts : Facts) (most : ℕ) (ts : List ℤ) (xs : List (Lifted (List AbsVal))) (g : Function) : Type 0 where
   pub own : slice_get p.functions n ≡ Some f
   pub values : Analysed p n f facts most ts xs
@@ -153,6 +153,6 @@ folds_by p n f facts t g folds =
     let by : IsFolded (folding_by p f t.limits) (λ k i. found_row t.rows k i) f g = subst (λ (h : Function). IsFolded (folding_by p h t.limits) (λ k i. found_row t.rows k i) h g) same folds.folded.folded in
     record {
       own = folds.own;
-      values = record { accepted = folds.accepted; lawful = folds.lawful; fit = folds.fit; values = folds.values.values };
+      values = record { accepted = folds.accepted; lawful = folds.lawful; fit = folds.fit; solves = folds.values.values.solves };
       folded = solved_so p n f facts t folds.values g by;
     }

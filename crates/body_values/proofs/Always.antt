@@ -17,7 +17,7 @@ use Rattle.value_domain.specs.declared.abs_val.AbsVal.{AbsVal}
 use Rattle.body_values.specs.declared.facts.Facts.{Facts}
 use Rattle.body_values.specs.Bodies.{after_body}
 use Rattle.body_values.specs.Flow.{body_of, body_at, value_or, values_at}
-use Rattle.body_values.specs.Claims.{FileHolds, given_of, ValuesClaim, PointsHold, Analysed, ValuesHold, ValuesHoldAlways}
+use Rattle.body_values.specs.Claims.{FileHolds, given_of, ValuesClaim, PointsHold, Analysed, ValuesHold, ValuesHoldAlways, FoundAnalysed}
 use Rattle.body_values.proofs.Solved.{to_option, reached_is, carried_is}
 use Rattle.gimple_claims.proofs.OneRun.{each_before, in_run}
 use Rattle.body_values.proofs.Points.{F, sol, is_at}
@@ -68,3 +68,6 @@ values_hold_always p n f facts most ts xs h all input numbers turns =
     (points_each p (PointsHold p n f facts most ts xs) input (quiet_points p n f facts most ts xs)
     (λ past s c same. values_at_state p n f facts most ts xs h input numbers past s c same
     (meets_of f (given_of n f facts) s.top.serial past (each_before p (FactsClaim f (given_of n f facts)) input (all input numbers) past s c)))) turns
+
+pub found_analysed : FoundAnalysed
+found_analysed p n f facts limits t accepted lawful fit found = record { accepted = accepted; lawful = lawful; fit = fit; solves = found.values.solves }

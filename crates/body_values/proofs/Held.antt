@@ -1,11 +1,9 @@
 -- What registers hold, and what their values say of it.
-use Rattle.std.proofs.Common.{◌≡◌, ℕ, suc, ◌+◌, min, ℤ, Bool, true, false, cond, not, if◌then◌else◌, inl, inr, List, [], ◌∷◌, length, refl, sym, ◌∙◌, ap, subst, arith, Option, Some, None, IsSomeAnd, slice_get, slice_set}
-use Rattle.std.proofs.lemmas.Int.{ints}
+use Rattle.std.proofs.Common.{◌≡◌, ℕ, suc, ◌+◌, ℤ, Bool, true, false, cond, not, if◌then◌else◌, List, [], ◌∷◌, length, refl, sym, ◌∙◌, ap, subst, arith, Some, IsSomeAnd, slice_get, slice_set}
 use Rattle.gimple_ir.specs.declared.scalar.Scalar.{Scalar}
 use Rattle.gimple_ir.specs.declared.scalar.Scalar.TheVariants.{I8, I16, I32, I64, U8, U16, U32, U64, Ptr}
 use Rattle.gimple_ir.specs.declared.value.Value.{Value}
 use Rattle.gimple_ir.specs.declared.value.Value.TheVariants.{Int as Number, Null as NullPointer, At}
-use Rattle.gimple_ir.specs.declared.value.Constant.{Constant}
 use Rattle.gimple_ir.specs.declared.declarations.Register.{Register}
 use Rattle.gimple_core.specs.declared.machine.Cell.{Cell}
 use Rattle.gimple_core.specs.Names.{same_name, update_first}
@@ -16,22 +14,11 @@ use Rattle.gimple_claims.specs.Typed.{is_of, cells_typed}
 use Rattle.fix_engine.specs.declared.lifted.Lifted.TheVariants.{NotReached, Reached}
 use Rattle.fix_engine.specs.Rows.{Each}
 use Rattle.fix_engine.specs.Bools.{and_left, and_right}
-use Rattle.lattice_parts.specs.SetLemmas.{subset_is}
 use Rattle.value_domain.specs.declared.abs_val.AbsVal.{AbsVal}
-use Rattle.value_domain.specs.declared.vals.Vals.{Vals}
-use Rattle.value_domain.specs.declared.vals.Vals.TheVariants.{Any, Nothing, Among}
-use Rattle.value_domain.specs.declared.bits.Bits.{Bits}
-use Rattle.value_domain.specs.Constants.{before}
-use Rattle.value_domain.specs.OrderLemmas.{constant_order}
-use Rattle.value_domain.specs.Bitmasks.{pattern, Agrees, AreBelow}
 use Rattle.value_domain.specs.ConstantOperators.{is_pointer}
-use Rattle.value_domain.specs.Values.{FitsWith, vals_below, abs_val_below, none_val, is_none_val}
-use Rattle.value_domain.specs.ValueLemmas.{abs_apart}
-use Rattle.value_domain.specs.Holding.{Holds, IsAmong, constant_of, number_part, value_of_scalar}
-use Rattle.value_domain.specs.BitsLemmas.{bit_agrees, bit_below}
-use Rattle.std.specs.Int.{bit_at}
-use Rattle.std.proofs.lemmas.Nat.Bits.{bit_at_and, same_from_bits}
-use Rattle.value_domain.proofs.WholeLemmas.{none_holds, parts_below_is}
+use Rattle.value_domain.specs.Values.{FitsWith, abs_val_below, is_none_val}
+use Rattle.value_domain.specs.Holding.{Holds, value_of_scalar}
+use Rattle.value_domain.proofs.AboveLaws.{not_none, above_holds}
 use Rattle.body_values.specs.Bodies.{place_of, register_scalar, scalar_or, put_value}
 use Rattle.body_values.specs.Rows.{row_below}
 pub use Rattle.body_values.specs.Claims.{RowHolds, FileHolds}
@@ -78,46 +65,6 @@ same_test U32 = refl
 same_test U64 = refl
 same_test Ptr = refl
 
--- ---- values that hold
-
-clash : (b : Bool) → b ≡ true → b ≡ false → ⊥
-clash true e f = cc
-clash false e f = cc
-
--- what holds a value is not none
-pub not_none : (most : ℕ) (ts : List ℤ) (a : AbsVal) (v : Value) → FitsWith most ts a → Holds v a → is_none_val a ≡ true → ⊥
-not_none most ts a v (inl n) h e = none_holds v a (abs_apart a none_val n.is) h
-not_none most ts a v (inr p) h e = clash (is_none_val a) e p.full
-
-below_row : (x p q u v : ℕ) → min x p ≡ u → min p q ≡ q → min u q ≡ v → min x q ≡ v
-below_row x p q u v a b c = omega (arith, a, b, c)
-
-below_agrees : (n : ℕ) (a b : Bits) → AreBelow a b → Agrees n a → Agrees n b
-below_agrees n a b e h = same_from_bits _ _ (λ (i : ℕ). let w = bit_below a b i e in bit_at_and n b.mask i ∙ below_row (bit_at n i) (bit_at a.mask i) (bit_at b.mask i) (bit_at a.value i) (bit_at b.value i) (bit_agrees n i a h) w.0 w.1)
-
-among_above : (o : Option Constant) (a b : Vals) → vals_below a b ≡ true → IsAmong o a → IsAmong o b
-among_above o a Any e h = tt
-among_above o Any Nothing e h = cc
-among_above o Any (Among m ys) e h = cc
-among_above o Nothing b e h = absurd h
-among_above None (Among l xs) b e h = absurd h
-among_above (Some c) (Among l xs) Nothing e h = absurd (subset_is before constant_order xs [] e c h)
-among_above (Some c) (Among l xs) (Among m ys) e h = subset_is before constant_order xs ys e c h
-
--- what holds below holds above
-pub holds_above : (most : ℕ) (ts : List ℤ) (a b : AbsVal) (v : Value) → FitsWith most ts a → abs_val_below a b ≡ true → Holds v a → Holds v b
-holds_above most ts a b v f e h = by (is_none_val a) refl
-  where
-    by : (t : Bool) → is_none_val a ≡ t → Holds v b
-    by true n = absurd (not_none most ts a v f h n)
-    by false n =
-        let p = (parts_below_is a b n e).1 in
-        record {
-          vals = among_above (constant_of v) a.vals b.vals p.vals h.vals;
-          bits = below_agrees (pattern (number_part v)) a.bits b.bits p.bits h.bits;
-          range = record { from = omega (arith, ints, p.range.low, h.range.from); to = omega (arith, ints, p.range.high, h.range.to) };
-        }
-
 -- ---- registers
 
 pub row_above : (most : ℕ) (ts : List ℤ) (xs ys : List AbsVal) (cells : List Cell) → Each (FitsWith most ts) xs → row_below xs ys ≡ true → length xs ≡ length ys → RowHolds xs cells → RowHolds ys cells
@@ -127,7 +74,7 @@ row_above most ts [] (y ∷ ys) cells f e n h = absurd (omega (arith, n))
 row_above most ts (x ∷ xs) [] cells f e n h = absurd (omega (arith, n))
 row_above most ts (x ∷ xs) (y ∷ ys) [] f e n h = absurd h
 row_above most ts (x ∷ xs) (y ∷ ys) (c ∷ cs) f e n h = (
-  holds_above most ts x y c.value f.0 (and_left (abs_val_below x y) (row_below xs ys) e) h.0,
+  above_holds most ts x y f.0 (and_left (abs_val_below x y) (row_below xs ys) e) c.value h.0,
   row_above most ts xs ys cs f.1 (and_right (abs_val_below x y) (row_below xs ys) e) (omega (arith, n)) h.1,
 )
 

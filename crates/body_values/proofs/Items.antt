@@ -43,7 +43,7 @@ use Rattle.value_domain.specs.declared.abs_val.AbsVal.{AbsVal}
 use Rattle.value_domain.specs.ConstantOperators.{is_pointer}
 use Rattle.value_domain.specs.Thresholds.{IsLawful}
 use Rattle.value_domain.specs.Holding.{Holds, constant_of, value_of_scalar}
-use Rattle.body_values.specs.Constants.{constant_holds}
+use Rattle.value_domain.proofs.AloneLaws.{alone_holds}
 use Rattle.body_values.specs.declared.facts.Facts.{Facts}
 use Rattle.body_values.specs.Bodies.{Body, is_local, global_place, item_constant, slot_place, slot_value, constant_slot, item_value}
 use Rattle.body_values.specs.Flow.{body_of}
@@ -210,7 +210,7 @@ module _ (p : Program) (n : ℕ) (f : Function) (facts : Facts) (most : ℕ) (ts
       let place : slot_place ls (pos y.offset) scalar ≡ Some j = subst (λ z. slot_place ls z scalar ≡ Some j) y.is o in
       let number : position_or_len (s.is_slot_at (pos y.offset) scalar) ls ≡ j = place_found _ _ j place in
       let whole : x.value ≡ item_or vs j scalar = sym y.value ∙ (value ∙ ap (λ m. item_or vs m scalar) number) in
-      constant_holds most ts law scalar (item_constant p.globals scalar (slice_get g.items j)) x.value typed (ap constant_of whole ∙ item_is p.globals scalar g.items j)
+      alone_holds most ts law scalar x.value (item_constant p.globals scalar (slice_get g.items j)) typed (ap constant_of whole ∙ item_is p.globals scalar g.items j)
 
   variable_holds : (name : List ℕ) (scalar : Scalar) (offset : ℤ) (x : FoundSlot) → is_local f.locals name ≡ false → in_scalar I64 offset ≡ true → found_at memory (moved_by (address_of p.globals scope name) (offset_in offset)) scalar ≡ Ok x → value_of_scalar scalar x.value ≡ true →
       (o : Option Global) → find (λ (g : Global). same_name g.decl.name name) p.globals ≡ o → IfSome (constant_slot B scalar offset o) (Holds x.value)

@@ -34,7 +34,8 @@ use Rattle.value_domain.specs.Thresholds.{IsLawful}
 use Rattle.value_domain.specs.Holding.{Holds, value_of_scalar}
 use Rattle.value_domain.proofs.ScalarLemmas.{in_type, wrapped_same}
 use Rattle.value_domain.proofs.TopLaws.{top_holds}
-use Rattle.body_values.specs.Constants.{constant_holds, brought_holds}
+use Rattle.value_domain.proofs.AloneLaws.{alone_holds}
+use Rattle.value_domain.proofs.BringLaws.{brought_holds}
 use Rattle.body_values.specs.declared.facts.Facts.{Facts}
 use Rattle.body_values.specs.Bodies.{Body, place_of, register_scalar, brought_or, is_local, global_place, global_value, operand_value}
 use Rattle.body_values.specs.Flow.{body_of}
@@ -138,7 +139,7 @@ module _ (p : Program) (n : ℕ) (f : Function) (facts : Facts) (most : ℕ) (ts
   global_holds : (scalar : Scalar) (o : Option ℕ) (offset : ℤ) → value_of_scalar scalar (moved_by (global_address o) (offset_in offset)) ≡ true → Holds (moved_by (global_address o) (offset_in offset)) (global_value B scalar o offset)
   unfolding moved_by
   global_holds scalar None offset w = top_holds scalar NullPointer w
-  global_holds scalar (Some j) offset w = constant_holds most ts law scalar (GlobalConstant j (offset_in offset)) _ w (ap (λ z. Some (GlobalConstant j z)) (from_begin offset))
+  global_holds scalar (Some j) offset w = alone_holds most ts law scalar _ (GlobalConstant j (offset_in offset)) w (ap (λ z. Some (GlobalConstant j z)) (from_begin offset))
 
   address_holds : (scalar : Scalar) (name : List ℕ) (offset : ℤ) → value_of_scalar scalar (value_of p.globals scope cells (Address name offset)) ≡ true → (b : Bool) → is_local f.locals name ≡ b →
       Holds (value_of p.globals scope cells (Address name offset)) (cond b (top_of scalar) (global_value B scalar (global_place p.globals name) offset))
@@ -161,6 +162,6 @@ module _ (p : Program) (n : ℕ) (f : Function) (facts : Facts) (most : ℕ) (ts
 
       by : (x : Operand) → s.operand (env_of p f) wrong scalar x ≡ Ok tt → value_of_scalar scalar (value_of p.globals scope cells x) ≡ true → Holds (value_of p.globals scope cells x) (operand_value B row scalar x)
       by (Reg name) g w = register name g
-      by (NumberOperand z) g w = constant_holds most ts law scalar (Int z) (Number z) w refl
-      by Null g w = constant_holds most ts law scalar NullConstant NullPointer w refl
+      by (NumberOperand z) g w = alone_holds most ts law scalar (Number z) (Int z) w refl
+      by Null g w = alone_holds most ts law scalar NullPointer NullConstant w refl
       by (Address name offset) g w = address_holds scalar name offset w (is_local f.locals name) refl

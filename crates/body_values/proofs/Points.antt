@@ -172,7 +172,7 @@ module _ (p : Program) (n : ℕ) (f : Function) (facts : Facts) (most : ℕ) (ts
       let whole : to_option (after_body B s.top.block 0 at.block.body (value_or (slice_get xs s.top.block))) ≡ Some row =
       carried_is B s.top.block 0 at.block.body (value_or (slice_get xs s.top.block)) ∙ (ap (λ ys. carried (flow_of B) s.top.block 0 ys (sol s.top.block)) (at.body ∙ append-nil at.done) ∙ at.file) in
       let file : after_body B s.top.block 0 at.block.body (value_or (slice_get xs s.top.block)) ≡ Reached row = reached_is _ row whole in
-      next_above p n f facts most ts h.lawful xs h.values.solves s.top.block taken.0 label at.block s.world.cells at.found labels
+      next_above p n f facts most ts h.lawful xs h.solves s.top.block taken.0 label at.block s.world.cells at.found labels
       (subst (λ x. LiftedFits most ts count (where_reached x (after_end B at.block.end taken.0))) (sym file) (end_rises B h.lawful loads at.block.end taken.0 row row (self B h.lawful loads row fits)).upper)
       (subst (λ x. FileHolds (where_reached x (after_end B at.block.end taken.0)) s.world.cells) (sym file) held)
 
@@ -183,8 +183,8 @@ module _ (p : Program) (n : ℕ) (f : Function) (facts : Facts) (most : ℕ) (ts
         let mine : w.cells ≡ cells_made f.params arguments 0 ++ cells_made f.registers [] 0 = subst (λ (z : Function). w.cells ≡ cells_made z.params arguments 0 ++ cells_made z.registers [] 0) same cells in
         let some : 0 < length f.blocks = some_blocks b bs blocks in
         let entry : FileHolds (entry_row f facts.formals most ts) w.cells = subst (FileHolds (entry_row f facts.formals most ts)) (sym mine) (entry_holds f facts most ts h.lawful h.fit arguments (meets.0 refl same)) in
-        begins_at 0 b (control_made g b serial takes) w.cells (value_or (slice_get xs 0)) refl (first bs blocks refl) refl refl refl refl (value_fits p n f facts most ts h.lawful xs h.values.solves 0 some)
-        (first_above p n f facts most ts h.lawful xs h.values.solves w.cells some (entry_fits f facts most ts h.lawful h.fit) entry);
+        begins_at 0 b (control_made g b serial takes) w.cells (value_or (slice_get xs 0)) refl (first bs blocks refl) refl refl refl refl (value_fits p n f facts most ts h.lawful xs h.solves 0 some)
+        (first_above p n f facts most ts h.lawful xs h.solves w.cells some (entry_fits f facts most ts h.lawful h.fit) entry);
     stmt = λ past s x rest w comes same there e uncalled did meets kind.
         let at : IsAt f F sol s.top s.world.cells = there (before (MeetsAt f (given_of n f facts) s.top.serial) past (told p s) meets) (typed past s comes) in
         goes_on s x rest w.cells at.file e at.state at.within.0 _ refl (after_fits s.top.block s.top.index x at.file at.within.0)
@@ -199,7 +199,7 @@ module _ (p : Program) (n : ℕ) (f : Function) (facts : Facts) (most : ℕ) (ts
         let place : place_or (block_place label s.top.function.blocks) ≡ place_or (block_place label f.blocks) = ap (λ (z : Function). place_or (block_place label z.blocks)) same in
         let blocks : 0 < length f.blocks = some_of (placed f F sol s.top.block s.top.index s.top.rest s.top.end at.file at.state) in
         begins_at (place_or (block_place label f.blocks)) b _ s.world.cells (value_or (slice_get xs (place_or (block_place label f.blocks)))) refl (jumped label found refl) place refl refl refl
-        (value_fits p n f facts most ts h.lawful xs h.values.solves (place_or (block_place label f.blocks)) (place_within label f.blocks blocks))
+        (value_fits p n f facts most ts h.lawful xs h.solves (place_or (block_place label f.blocks)) (place_within label f.blocks blocks))
         (jump_goes past s label at.file comes same e t at.state at.within.0 at.within.1);
     others = λ past s c cells takes comes there. in_did_always _ (λ t meets. there (before (MeetsAt f (given_of n f facts) c.serial) past (told p s) meets)) (step p s);
     back = λ past s c cells v comes same there e x meets kind. there (before (MeetsAt f (given_of n f facts) c.serial) past (told p s) meets) v kind;

@@ -6,8 +6,8 @@ use Rattle.gimple_ir.specs.declared.statement.Stmt.{Stmt}
 use Rattle.gimple_ir.specs.declared.value.Constant.TheVariants.{Int}
 use Rattle.fix_engine.specs.declared.lifted.Lifted.{Lifted}
 use Rattle.fix_engine.specs.declared.lifted.Lifted.TheVariants.{NotReached, Reached}
-use Rattle.body_values.specs.Constants.{of_constant}
-use Rattle.body_values.specs.Constants.{constant_fits}
+use Rattle.value_domain.specs.AbsOperators.{exactly_of}
+use Rattle.value_domain.proofs.AloneLaws.{alone_fits}
 use Rattle.body_values.specs.Bodies.{Body, after_stmt, after_body}
 use Rattle.gimple_ir.specs.declared.scalar.Scalar.{Scalar}
 use Rattle.gimple_ir.specs.declared.scalar.Cmp.{Cmp}
@@ -36,8 +36,8 @@ pub gone : (B : Body) (k i : ℕ) (ss : List Stmt) → after_body B k i ss NotRe
 gone B k i [] = refl
 gone B k i (s ∷ ss) = gone B k (i + 1) ss
 
-pub case_good : (s : Scene) (scalar : Scalar) (z : ℤ) (v : AbsVal) → IsLawful s.limits.now.ends → v ≡ of_constant s.limits.now.size s.limits.now.ends scalar (Int z) → IsGoodIn s scalar v
-case_good s scalar z v law e = let g = constant_fits s.limits.now.size s.limits.now.ends law scalar (Int z) in subst (IsGoodIn s scalar) (sym e) (record { fits = g.0; of = g.1 })
+pub case_good : (s : Scene) (scalar : Scalar) (z : ℤ) (v : AbsVal) → IsLawful s.limits.now.ends → v ≡ exactly_of scalar s.limits.now.size s.limits.now.ends (Int z) → IsGoodIn s scalar v
+case_good s scalar z v law e = let g = alone_fits s.limits.now.size s.limits.now.ends law scalar (Int z) in subst (IsGoodIn s scalar) (sym e) (record { fits = g.0; of = g.1 })
 
 pub equality_may : (scalar : Scalar) → MayCompare Ne scalar
 equality_may scalar = inr refl

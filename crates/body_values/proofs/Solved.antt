@@ -21,7 +21,7 @@ use Rattle.fix_engine.specs.Least.{value_at, IsSolution}
 use Rattle.value_domain.specs.declared.abs_val.AbsVal.{AbsVal}
 use Rattle.value_domain.specs.Values.{FitsWith, FitsAbsVal, abs_val_below, is_none_val, kind_of}
 use Rattle.value_domain.specs.Thresholds.{IsLawful}
-use Rattle.body_values.specs.Constants.{constant_holds}
+use Rattle.value_domain.proofs.AloneLaws.{alone_holds}
 use Rattle.gimple_claims.proofs.TypedValues.{zero_is}
 use Rattle.fix_engine.specs.Rows.{Each}
 use Rattle.body_values.specs.declared.facts.Facts.{Facts}
@@ -31,7 +31,8 @@ use Rattle.body_values.specs.Flow.{body_of, zero_constant, zero_value, entry_row
 use Rattle.body_values.specs.Rows.{LiftedFits, reached_below}
 use Rattle.body_values.specs.System.{FactsFit, kind_is, from_kind, place_within}
 use Rattle.body_values.specs.Claims.{RowHolds, FileHolds, FormalsMeet}
-use Rattle.body_values.proofs.Held.{typed_is, row_above, not_none}
+use Rattle.value_domain.proofs.AboveLaws.{not_none}
+use Rattle.body_values.proofs.Held.{typed_is, row_above}
 use Rattle.body_values.proofs.Items.{zero_is as zero_constant_is}
 
 abbrev pub to_option : Lifted (List AbsVal) → Option (List AbsVal)
@@ -136,7 +137,7 @@ formals_full most ts (r ∷ ps) (a ∷ formals) arguments k e f m = by (is_none_
 zeros_hold : (most : ℕ) (ts : List ℤ) → IsLawful ts → (rs : List Register) (k : ℕ) → RowHolds (map (zero_value most ts) rs) (cells_made rs [] k)
 unfolding cells_made
 zeros_hold most ts law [] k = tt
-zeros_hold most ts law (r ∷ rs) k = (constant_holds most ts law r.scalar (zero_constant r.scalar) (zero_of r.scalar) (typed_is r.scalar (zero_of r.scalar) (zero_is r.scalar)) (zero_constant_is r.scalar), zeros_hold most ts law rs (k + 1))
+zeros_hold most ts law (r ∷ rs) k = (alone_holds most ts law r.scalar (zero_of r.scalar) (zero_constant r.scalar) (typed_is r.scalar (zero_of r.scalar) (zero_is r.scalar)) (zero_constant_is r.scalar), zeros_hold most ts law rs (k + 1))
 
 pub entry_holds : (f : Function) (facts : Facts) (most : ℕ) (ts : List ℤ) → IsLawful ts → FactsFit f facts most ts → (arguments : List Value) → FormalsMeet f.params facts.formals arguments 0 →
     FileHolds (entry_row f facts.formals most ts) (cells_made f.params arguments 0 ++ cells_made f.registers [] 0)

@@ -40,7 +40,7 @@ use Rattle.value_domain.specs.Holding.{Holds, value_of_scalar}
 use Rattle.value_domain.specs.Laws.{done}
 use Rattle.value_domain.proofs.WholeLemmas.{IsGood}
 use Rattle.value_domain.proofs.TopLaws.{top_holds, top_fits}
-use Rattle.body_values.specs.Constants.{brought_holds}
+use Rattle.value_domain.proofs.BringLaws.{brought_holds}
 use Rattle.value_domain.proofs.AbsLaws.{op_holds, cmp_holds, convert_holds_all}
 use Rattle.body_values.specs.declared.facts.Facts.{Facts}
 use Rattle.body_values.specs.Bodies.{Body, register_scalar, put_value, brought_or, operand_value, count_scalar, right_scalar, is_lawful, arith_value, sides_scalar, may_compare, compare_value, source_scalar, convert_value, item_value, first_value, load_value, result_value, after_stmt}

@@ -43,10 +43,10 @@ use Rattle.value_domain.specs.AbsOperators.{abs_met, refined_of}
 use Rattle.value_domain.specs.Values.{FitsWith}
 use Rattle.value_domain.specs.Thresholds.{IsLawful}
 use Rattle.value_domain.specs.Holding.{Holds, value_of_scalar, is_equality, MayCompare}
-use Rattle.body_values.specs.Constants.{of_constant}
+use Rattle.value_domain.specs.AbsOperators.{exactly_of}
 use Rattle.value_domain.proofs.WholeLemmas.{IsGood, number_value}
 use Rattle.value_domain.proofs.OperatorLaws.{any_is}
-use Rattle.body_values.specs.Constants.{constant_holds, constant_fits}
+use Rattle.value_domain.proofs.AloneLaws.{alone_holds, alone_fits}
 use Rattle.value_domain.proofs.MeetLaws.{meet_holds_all, meet_fits_all}
 use Rattle.value_domain.proofs.RefineLaws.{refine_holds, refine_fits}
 use Rattle.body_values.specs.declared.facts.Facts.{Facts}
@@ -335,8 +335,8 @@ module _ (p : Program) (n : ℕ) (f : Function) (facts : Facts) (most : ℕ) (ts
     without_good : (scalar : Scalar) (cs : List Case) (a : AbsVal) → IsGood most ts scalar a → IsGood most ts scalar (without_cases B scalar cs a)
     without_good scalar [] a g = g
     without_good scalar (c ∷ cs) a g =
-        let w = constant_fits most ts law scalar (Int c.value) in
-        without_good scalar cs _ (refine_fits most ts law Ne scalar (inr refl) a (of_constant most ts scalar (Int c.value)) g.0 g.1 w.0 w.1)
+        let w = alone_fits most ts law scalar (Int c.value) in
+        without_good scalar cs _ (refine_fits most ts law Ne scalar (inr refl) a (exactly_of scalar most ts (Int c.value)) g.0 g.1 w.0 w.1)
 
     number_typed : (scalar : Scalar) (z : ℤ) → is_pointer scalar ≡ false → in_scalar scalar z ≡ true → value_of_scalar scalar (Number z) ≡ true
     number_typed scalar z e i = rw (e, i) refl
@@ -352,18 +352,18 @@ module _ (p : Program) (n : ℕ) (f : Function) (facts : Facts) (most : ℕ) (ts
     without_holds : (scalar : Scalar) (z : ℤ) (cs : List Case) (a : AbsVal) → is_pointer scalar ≡ false → in_scalar scalar z ≡ true → CasesOf scalar cs → AllApart z cs → IsGood most ts scalar a → Holds (Number z) a → Holds (Number z) (without_cases B scalar cs a)
     without_holds scalar z [] a np i all apart g h = h
     without_holds scalar z (c ∷ cs) a np i all apart g h =
-        let w = constant_fits most ts law scalar (Int c.value) in
+        let w = alone_fits most ts law scalar (Int c.value) in
         let typed : value_of_scalar scalar (Number c.value) ≡ true = number_typed scalar c.value np all.0 in
-        let held : Holds (Number c.value) (of_constant most ts scalar (Int c.value)) = constant_holds most ts law scalar (Int c.value) (Number c.value) typed refl in
+        let held : Holds (Number c.value) (exactly_of scalar most ts (Int c.value)) = alone_holds most ts law scalar (Number c.value) (Int c.value) typed refl in
         without_holds scalar z cs _ np i all.1 apart.1 (refine_fits most ts law Ne scalar (inr refl) a _ g.0 g.1 w.0 w.1)
         (refine_holds most ts law Ne scalar (inr refl) a _ g.0 g.1 w.0 w.1 (Number z) (Number c.value) (number_typed scalar z np i) typed h held (apart_ints z c.value apart.0))
 
     case_holds : (scalar : Scalar) (z : ℤ) (c : Case) (a : AbsVal) → is_pointer scalar ≡ false → in_scalar scalar z ≡ true → in_scalar scalar c.value ≡ true → cmp_of Eq z c.value ≡ true → IsGood most ts scalar a → Holds (Number z) a →
-        Holds (Number z) (refined_of Eq ts a (of_constant most ts scalar (Int c.value)))
+        Holds (Number z) (refined_of Eq ts a (exactly_of scalar most ts (Int c.value)))
     case_holds scalar z c a np i j e g h =
-        let w = constant_fits most ts law scalar (Int c.value) in
+        let w = alone_fits most ts law scalar (Int c.value) in
         let typed : value_of_scalar scalar (Number c.value) ≡ true = number_typed scalar c.value np j in
-        refine_holds most ts law Eq scalar (inr refl) a _ g.0 g.1 w.0 w.1 (Number z) (Number c.value) (number_typed scalar z np i) typed h (constant_holds most ts law scalar (Int c.value) (Number c.value) typed refl) (equal_ints z c.value e)
+        refine_holds most ts law Eq scalar (inr refl) a _ g.0 g.1 w.0 w.1 (Number z) (Number c.value) (number_typed scalar z np i) typed h (alone_holds most ts law scalar (Number c.value) (Int c.value) typed refl) (equal_ints z c.value e)
 
     -- the branch that is taken, and the values behind it
     pub record Branches (e : End) (label : ℕ) : Type 0 where
@@ -391,11 +391,11 @@ module _ (p : Program) (n : ℕ) (f : Function) (facts : Facts) (most : ℕ) (ts
           label_is = label_at cs other place c there;
           holds =
               subst (λ o. FileHolds (put_value rs row name (case_left B (register_scalar rs name) cs (operand_value B row (register_scalar rs name) (Reg name)) o)) cells) (sym there)
-              (subst (λ d. FileHolds (put_value rs row name (refined_of Eq ts (operand_value B row d (Reg name)) (of_constant most ts d (Int c.value)))) cells) (sym same)
+              (subst (λ d. FileHolds (put_value rs row name (refined_of Eq ts (operand_value B row d (Reg name)) (exactly_of d most ts (Int c.value)))) cells) (sym same)
               (let g = good p n f facts most ts law serial cells row k t fits h loads scalar (Reg name) in
-              let w = constant_fits most ts law scalar (Int c.value) in
+              let w = alone_fits most ts law scalar (Int c.value) in
               put_refined row name _ h (refine_fits most ts law Eq scalar (inr refl) _ _ g.0 g.1 w.0 w.1).0
-              (subst (λ u. Holds u (refined_of Eq ts (operand_value B row scalar (Reg name)) (of_constant most ts scalar (Int c.value)))) (sym v)
+              (subst (λ u. Holds u (refined_of Eq ts (operand_value B row scalar (Reg name)) (exactly_of scalar most ts (Int c.value)))) (sym v)
               (case_holds scalar z c _ np i (found_of scalar cs place c all there) (found_equal z cs c e) g held))));
         }
 

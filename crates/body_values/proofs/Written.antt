@@ -14,7 +14,7 @@ use Rattle.gimple_ir.specs.declared.statement.Stmt.{Stmt}
 use Rattle.gimple_core.specs.Names.{same_name}
 use Rattle.fix_engine.specs.declared.lifted.Lifted.TheVariants.{NotReached, Reached}
 use Rattle.gimple_core.specs.Layout.{layout_of}
-use Rattle.body_values.specs.Constants.{of_constant}
+use Rattle.value_domain.specs.AbsOperators.{exactly_of}
 use Rattle.gimple_core.specs.Memory.{same_scalar}
 use Rattle.gimple_core.specs.Statements.{is_slot_at}
 use Rattle.gimple_ir.specs.declared.scalar.Scalar.{Scalar}
@@ -95,7 +95,7 @@ slot_none B scalar offset g ls c l e =
     λ i. cond (sym c i) (slot_value B scalar g (sym f i)) None
 
 pub slot_some : (B : Body) (scalar : Scalar) (offset : ℤ) (g : Global) (ls : List LayoutSlot) (n : ℕ) (v : AbsVal) → g.constant ≡ true → ls ≡ (layout_of B.structs g.decl).slots → slot_place ls offset scalar ≡ Some n →
-    v ≡ of_constant B.most B.ends scalar (item_constant B.globals scalar (slice_get g.items n)) → Some v ≡ constant_slot B scalar offset (Some g)
+    v ≡ exactly_of scalar B.most B.ends (item_constant B.globals scalar (slice_get g.items n)) → Some v ≡ constant_slot B scalar offset (Some g)
 slot_some B scalar offset g ls n v c l e h =
     let f : slot_place (layout_of B.structs g.decl).slots offset scalar ≡ Some n = ap (λ ys. slot_place ys offset scalar) (sym l) ∙ e in
     ap (λ u. Some u) h ∙ (λ i. cond (sym c i) (slot_value B scalar g (sym f i)) None)

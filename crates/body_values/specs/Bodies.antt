@@ -35,7 +35,7 @@ use Rattle.value_domain.specs.RangeOperators.{opposite}
 use Rattle.value_domain.specs.AbsOperators.{top_of, abs_op_of, abs_cmp_of, abs_convert_of, abs_met, refined_of, brought_into}
 use Rattle.value_domain.specs.Holding.{is_equality}
 use Rattle.value_domain.specs.Values.{is_none_val}
-use Rattle.body_values.specs.Constants.{of_constant}
+use Rattle.value_domain.specs.AbsOperators.{exactly_of}
 
 -- What the values in a body depend on: the program's structs and globals, the function's locals and registers with the
 -- formals first, the limit of constants, the thresholds, and what is given of loads by block and index.
@@ -81,12 +81,12 @@ global_place globals name = position (λ g. same_name g.decl.name name) globals
 -- the value of the address of a global; that of a local is no constant
 abbrev pub global_value : Body → Scalar → Option ℕ → ℤ → AbsVal
 global_value B scalar None offset = top_of scalar
-global_value B scalar (Some k) offset = of_constant B.most B.ends scalar (GlobalConstant k (offset_in offset))
+global_value B scalar (Some k) offset = exactly_of scalar B.most B.ends (GlobalConstant k (offset_in offset))
 
 unfoldable pub operand_value : Body → List AbsVal → Scalar → Operand → AbsVal
 operand_value B row scalar (Reg name) = brought_or scalar (slice_get row (place_of B.registers name))
-operand_value B row scalar (Number z) = of_constant B.most B.ends scalar (Int z)
-operand_value B row scalar Null = of_constant B.most B.ends scalar NullConstant
+operand_value B row scalar (Number z) = exactly_of scalar B.most B.ends (Int z)
+operand_value B row scalar Null = exactly_of scalar B.most B.ends NullConstant
 operand_value B row scalar (Address name offset) = if is_local B.locals name then top_of scalar else global_value B scalar (global_place B.globals name) offset
 
 -- ---- operators
@@ -150,7 +150,7 @@ slot_place slots offset scalar = position (is_slot_at offset scalar) slots
 
 abbrev pub slot_value : Body → Scalar → Global → Option ℕ → Option AbsVal
 slot_value B scalar g None = None
-slot_value B scalar g (Some n) = Some (of_constant B.most B.ends scalar (item_constant B.globals scalar (slice_get g.items n)))
+slot_value B scalar g (Some n) = Some (exactly_of scalar B.most B.ends (item_constant B.globals scalar (slice_get g.items n)))
 
 abbrev pub constant_slot : Body → Scalar → ℤ → Option Global → Option AbsVal
 constant_slot B scalar offset None = None
@@ -251,11 +251,11 @@ after_compare B scalar cmp left right row =
 -- without the constants of the cases
 abbrev pub without_cases : Body → Scalar → List Case → AbsVal → AbsVal
 without_cases B scalar [] a = a
-without_cases B scalar (c ∷ cs) a = without_cases B scalar cs (refined_of Ne B.ends a (of_constant B.most B.ends scalar (Int c.value)))
+without_cases B scalar (c ∷ cs) a = without_cases B scalar cs (refined_of Ne B.ends a (exactly_of scalar B.most B.ends (Int c.value)))
 
 abbrev pub case_left : Body → Scalar → List Case → AbsVal → Option Case → AbsVal
 case_left B scalar cases a None = without_cases B scalar cases a
-case_left B scalar cases a (Some c) = refined_of Eq B.ends a (of_constant B.most B.ends scalar (Int c.value))
+case_left B scalar cases a (Some c) = refined_of Eq B.ends a (exactly_of scalar B.most B.ends (Int c.value))
 
 abbrev pub switch_left : Body → List Case → Option Case → List AbsVal → Option (List ℕ) → Lifted (List AbsVal)
 switch_left B cases taken row None = Reached row

@@ -13,9 +13,10 @@ use Rattle.fix_engine.specs.declared.lifted.Lifted.{Lifted}
 use Rattle.fix_engine.specs.declared.lifted.Lifted.TheVariants.{NotReached, Reached}
 use Rattle.value_domain.specs.declared.abs_val.AbsVal.{AbsVal}
 use Rattle.value_domain.specs.Holding.{Holds}
-use Rattle.value_domain.specs.Thresholds.{IsLawful}
+use Rattle.value_domain.specs.Thresholds.{Limits, IsLawful}
 use Rattle.body_values.specs.declared.facts.Facts.{Facts}
-use Rattle.body_values.specs.Flow.{given_load, body_of, AreValues, values_at}
+use Rattle.body_values.specs.Flow.{given_load, body_of, Solves, values_at}
+use Rattle.body_values.specs.Found.{Found, AreFound}
 use Rattle.body_values.specs.System.{FactsFit}
 
 -- each register holds a value of its abstract value
@@ -57,12 +58,12 @@ PointsHold p n f facts most ts xs past (Load c scalar object offset v) = Unit {0
 PointsHold p n f facts most ts xs past (Store c scalar object offset v) = Unit {0}
 PointsHold p n f facts most ts xs past (Leave serial) = Unit {0}
 
--- the values of a function of a program without a type fault, for facts that fit
+-- a solution of the system of a function of a program without a type fault, for facts that fit
 pub record Analysed (p : Program) (n : ℕ) (f : Function) (facts : Facts) (most : ℕ) (ts : List ℤ) (xs : List (Lifted (List AbsVal))) : Type 0 where
   pub accepted : first_fault p ≡ None
   pub lawful : IsLawful ts
   pub fit : FactsFit f facts most ts
-  pub values : AreValues p n f facts most ts xs
+  pub solves : Solves p n f facts most ts xs
 
 -- of each activation that meets the facts
 abbrev pub ValuesHold : Type 0
@@ -71,3 +72,8 @@ ValuesHold = (p : Program) (n : ℕ) (f : Function) (facts : Facts) (most : ℕ)
 -- where the facts hold in each run, of each activation
 abbrev pub ValuesHoldAlways : Type 0
 ValuesHoldAlways = (p : Program) (n : ℕ) (f : Function) (facts : Facts) (most : ℕ) (ts : List ℤ) (xs : List (Lifted (List AbsVal))) → Analysed p n f facts most ts xs → InEachRun p (FactsClaim f (given_of n f facts)) → InEachRun p (PointsHold p n f facts most ts xs)
+
+-- the values that are found of a function are such a solution
+abbrev pub FoundAnalysed : Type 0
+FoundAnalysed = (p : Program) (n : ℕ) (f : Function) (facts : Facts) (limits : Limits) (t : Found) → first_fault p ≡ None → IsLawful limits.ends → FactsFit f facts limits.size limits.ends
+    → (found : AreFound p n f facts limits t) → Analysed p n f facts limits.size limits.ends found.begins

@@ -17,11 +17,11 @@ use Rattle.fix_engine.specs.declared.lifted.Lifted.{Lifted}
 use Rattle.fix_engine.specs.declared.lifted.Lifted.TheVariants.{NotReached, Reached}
 use Rattle.fix_engine.specs.Lifted.{FitsLifted, lifted_below}
 use Rattle.fix_engine.specs.Rows.{FitsRows, rows_below}
-use Rattle.fix_engine.specs.Least.{Equations, IsLeast}
+use Rattle.fix_engine.specs.Least.{Equations, IsLeast, IsSolution}
 use Rattle.value_domain.specs.declared.abs_val.AbsVal.{AbsVal}
 use Rattle.value_domain.specs.ConstantOperators.{is_pointer}
 use Rattle.value_domain.specs.Values.{FitsAbsVal, abs_val_below, is_none_val, kind_of}
-use Rattle.body_values.specs.Constants.{of_constant}
+use Rattle.value_domain.specs.AbsOperators.{exactly_of}
 use Rattle.body_values.specs.declared.facts.Facts.{Facts}
 use Rattle.body_values.specs.declared.facts.LoadFact.{LoadFact}
 use Rattle.body_values.specs.declared.branches.Branch.{Branch}
@@ -58,7 +58,7 @@ abbrev pub zero_constant : Scalar → Constant
 zero_constant scalar = if is_pointer scalar then Null else Int (pos 0)
 
 abbrev pub zero_value : ℕ → List ℤ → Register → AbsVal
-zero_value most ends r = of_constant most ends r.scalar (zero_constant r.scalar)
+zero_value most ends r = exactly_of r.scalar most ends (zero_constant r.scalar)
 
 -- the facts of formals, and zero or null of registers; where a fact is none, no point is reached
 abbrev pub entry_row : Function → List AbsVal → ℕ → List ℤ → Lifted (List AbsVal)
@@ -119,6 +119,11 @@ equations_of B blocks entry = record {
 
 abbrev pub system_of : Program → ℕ → Function → Facts → ℕ → List ℤ → Equations (Lifted (List AbsVal))
 system_of p n f facts most ends = equations_of (body_of p n f facts most ends) f.blocks (entry_row f facts.formals most ends)
+
+-- a solution, as values at the begin of each block
+abbrev pub Solves : Program → ℕ → Function → Facts → ℕ → List ℤ → List (Lifted (List AbsVal)) → Type 0
+Solves p n f facts most ends xs =
+    IsSolution (FitsLifted (FitsRows FitsAbsVal) (length (f.params ++ f.registers) ∷ kind_of most ends)) (lifted_below (rows_below abs_val_below)) (system_of p n f facts most ends) xs
 
 -- the values at the begin of each block: the least solution
 abbrev pub AreValues : Program → ℕ → Function → Facts → ℕ → List ℤ → List (Lifted (List AbsVal)) → Type 0

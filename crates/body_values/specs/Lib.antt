@@ -1,4 +1,3 @@
-pub mod Constants
 pub mod Bodies
 pub mod Flow
 pub mod GivenLoads

@@ -35,10 +35,10 @@ use Rattle.value_domain.specs.AbsOperators.{top_of, abs_met, refined_of}
 use Rattle.value_domain.specs.Holding.{IsRight, IsAllowed, MayCompare, is_equality}
 use Rattle.value_domain.specs.Values.{FitsWith, abs_val_below, is_none_val}
 use Rattle.value_domain.specs.Thresholds.{IsLawful}
-use Rattle.body_values.specs.Constants.{of_constant}
+use Rattle.value_domain.specs.AbsOperators.{exactly_of}
 use Rattle.value_domain.proofs.WholeLemmas.{IsGood}
 use Rattle.value_domain.proofs.TopLaws.{top_fits}
-use Rattle.body_values.specs.Constants.{constant_fits}
+use Rattle.value_domain.proofs.AloneLaws.{alone_fits}
 use Rattle.value_domain.proofs.BringLaws.{brought_fits, brought_rises}
 use Rattle.value_domain.proofs.AbsLaws.{op_fits, op_rises, cmp_fits, cmp_rises_all, convert_fits, convert_rises_all}
 use Rattle.value_domain.proofs.MeetLaws.{meet_fits_all}
@@ -146,8 +146,8 @@ module _ (B : Body) (law : IsLawful B.ends) where
   top_stays : (scalar : Scalar) → Rises scalar (top_of scalar) (top_of scalar)
   top_stays scalar = stays B.most B.ends scalar (top_of scalar) (top_fits B.most B.ends law scalar)
 
-  constant_stays : (scalar : Scalar) (c : Constant) → Rises scalar (of_constant B.most B.ends scalar c) (of_constant B.most B.ends scalar c)
-  constant_stays scalar c = stays B.most B.ends scalar (of_constant B.most B.ends scalar c) (constant_fits B.most B.ends law scalar c)
+  constant_stays : (scalar : Scalar) (c : Constant) → Rises scalar (exactly_of scalar B.most B.ends c) (exactly_of scalar B.most B.ends c)
+  constant_stays scalar c = stays B.most B.ends scalar (exactly_of scalar B.most B.ends c) (alone_fits B.most B.ends law scalar c)
 
   -- ---- operands
 
@@ -223,7 +223,7 @@ module _ (B : Body) (law : IsLawful B.ends) where
 
   slot_fits : (scalar : Scalar) (g : Global) (o : Option ℕ) → IfSome (slot_value B scalar g o) (IsGood B.most B.ends scalar)
   slot_fits scalar g None = tt
-  slot_fits scalar g (Some n) = constant_fits B.most B.ends law scalar _
+  slot_fits scalar g (Some n) = alone_fits B.most B.ends law scalar _
 
   if_fits : (scalar : Scalar) (b : Bool) (o : Option AbsVal) → IfSome o (IsGood B.most B.ends scalar) → IfSome (cond b o None) (IsGood B.most B.ends scalar)
   if_fits scalar true o h = h
@@ -400,11 +400,11 @@ module _ (B : Body) (law : IsLawful B.ends) where
 
     cases_rise : (scalar : Scalar) (cs : List Case) (a c : AbsVal) → Rises scalar a c → Rises scalar (without_cases B scalar cs a) (without_cases B scalar cs c)
     cases_rise scalar [] a c u = u
-    cases_rise scalar (k ∷ cs) a c u = cases_rise scalar cs _ _ (refined_rises Ne scalar (inr refl) a c (of_constant B.most B.ends scalar (Int k.value)) u (constant_fits B.most B.ends law scalar (Int k.value)))
+    cases_rise scalar (k ∷ cs) a c u = cases_rise scalar cs _ _ (refined_rises Ne scalar (inr refl) a c (exactly_of scalar B.most B.ends (Int k.value)) u (alone_fits B.most B.ends law scalar (Int k.value)))
 
     case_rises : (scalar : Scalar) (cs : List Case) (taken : Option Case) (a c : AbsVal) → Rises scalar a c → Rises scalar (case_left B scalar cs a taken) (case_left B scalar cs c taken)
     case_rises scalar cs None a c u = cases_rise scalar cs a c u
-    case_rises scalar cs (Some k) a c u = refined_rises Eq scalar (inr refl) a c (of_constant B.most B.ends scalar (Int k.value)) u (constant_fits B.most B.ends law scalar (Int k.value))
+    case_rises scalar cs (Some k) a c u = refined_rises Eq scalar (inr refl) a c (exactly_of scalar B.most B.ends (Int k.value)) u (alone_fits B.most B.ends law scalar (Int k.value))
 
     switch_rises : (on : Option (List ℕ)) (cs : List Case) (taken : Option Case) (x y : List AbsVal) → RowsRise B x y → FilesRise B (switch_left B cs taken x on) (switch_left B cs taken y on)
     switch_rises None cs taken x y r = reached x y r

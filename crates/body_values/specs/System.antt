@@ -16,13 +16,13 @@ use Rattle.fix_engine.specs.Least.{Equations, FlowLaws}
 use Rattle.value_domain.specs.declared.abs_val.AbsVal.{AbsVal}
 use Rattle.value_domain.specs.Values.{FitsWith, FitsAbsVal, abs_val_below, is_none_val, kind_of, limit_in, thresholds_in}
 use Rattle.value_domain.specs.Thresholds.{IsLawful}
-use Rattle.body_values.specs.Constants.{constant_fits}
+use Rattle.value_domain.proofs.AloneLaws.{alone_fits}
 use Rattle.value_domain.proofs.KindLaws.{kind_thresholds}
 use Rattle.body_values.specs.declared.facts.Facts.{Facts}
 use Rattle.body_values.specs.declared.facts.LoadFact.{LoadFact}
 use Rattle.body_values.specs.Bodies.{Body, where_reached, after_end}
 use Rattle.body_values.specs.declared.branches.Branch.{Branch}
-use Rattle.body_values.specs.Flow.{is_point, fact_value, given_load, body_of, zero_constant, zero_value, entry_row, labels_of, branches_to, branches_from, branches_of, along_block, along, source_of, to_of, equations_of, system_of}
+use Rattle.body_values.specs.Flow.{is_point, fact_value, given_load, body_of, zero_constant, zero_value, entry_row, labels_of, branches_to, branches_from, branches_of, along_block, along, source_of, to_of, equations_of}
 use Rattle.body_values.specs.Rows.{LiftedFits, reached_below, each_append}
 use Rattle.body_values.specs.Rising.{FilesRise, LoadsFit, self, body_rises, end_rises}
 
@@ -162,7 +162,7 @@ given_fits P (x ∷ loads) n k i h = fact_by P (is_point x.point n k i) x _ h.0 
 
 zeros_fit : (most : ℕ) (ts : List ℤ) → IsLawful ts → (rs : List Register) → Each (FitsWith most ts) (map (zero_value most ts) rs)
 zeros_fit most ts law [] = tt
-zeros_fit most ts law (r ∷ rs) = ((constant_fits most ts law r.scalar (zero_constant r.scalar)).0, zeros_fit most ts law rs)
+zeros_fit most ts law (r ∷ rs) = ((alone_fits most ts law r.scalar (zero_constant r.scalar)).0, zeros_fit most ts law rs)
 
 lengths : (xs : List AbsVal) (ps rs : List Register) (f : Register → AbsVal) → length xs ≡ length ps → length (xs ++ map f rs) ≡ length (ps ++ rs)
 lengths [] [] rs f e = same rs
@@ -186,12 +186,3 @@ entry_fits f facts most ts law h = entry_by f facts most ts law h (list_any is_n
 
 pub loads_fit : (p : Program) (n : ℕ) (f : Function) (facts : Facts) (most : ℕ) (ts : List ℤ) → FactsFit f facts most ts → LoadsFit (body_of p n f facts most ts)
 loads_fit p n f facts most ts h = λ k i. given_fits (FitsWith most ts) facts.loads n k i h.loads
-
-plain_laws : (p : Program) (n : ℕ) (f : Function) (facts : Facts) (most : ℕ) (ts : List ℤ) → IsLawful ts → FactsFit f facts most ts → FlowLaws (LiftedFits most ts (length (f.params ++ f.registers))) reached_below (system_of p n f facts most ts)
-plain_laws p n f facts most ts law h = laws_of (body_of p n f facts most ts) law (loads_fit p n f facts most ts h) f.blocks (entry_row f facts.formals most ts) (entry_fits f facts most ts law h)
-
-pub system_laws : (p : Program) (n : ℕ) (f : Function) (facts : Facts) (most : ℕ) (ts : List ℤ) → IsLawful ts → FactsFit f facts most ts →
-    FlowLaws (FitsLifted (FitsRows FitsAbsVal) (length (f.params ++ f.registers) ∷ kind_of most ts)) (lifted_below (rows_below abs_val_below)) (system_of p n f facts most ts)
-system_laws p n f facts most ts law h =
-    kind_laws (kind_of most ts) (length (f.params ++ f.registers)) (system_of p n f facts most ts)
-    (subst (λ us. FlowLaws (LiftedFits most us (length (f.params ++ f.registers))) reached_below (system_of p n f facts most ts)) (sym (kind_is most ts law)) (plain_laws p n f facts most ts law h))

@@ -5,7 +5,7 @@ ghost use Rattle.std.specs.Option.{option_copied};
 ghost use Rattle.fix_engine.specs.declared.lifted.Lifted.{Lifted};
 ghost use Rattle.fix_engine.specs.declared.lifted.Lifted.TheVariants.{NotReached, Reached};
 ghost use Rattle.value_domain.specs.Holding.{MayCompare};
-ghost use Rattle.body_values.specs.Constants.{of_constant};
+ghost use Rattle.value_domain.specs.AbsOperators.{exactly_of};
 ghost use Rattle.value_domain.specs.RangeOperators.{opposite};
 ghost use Rattle.value_domain.specs.AbsOperators.{abs_met, refined_of};
 ghost use Rattle.body_values.specs.Bodies.{register_scalar, put_value, both_put, turned, register_of, left_sides, after_compare, without_cases, case_left, switch_left, after_switch, after_end, after_body, sides_scalar};
@@ -195,7 +195,7 @@ impl<'a> Scene<'a> {
 
     #[tactic(auto, using(crate::proofs::Refined::case_good))]
     fn constant(&self, scalar: Scalar, case: &Case) -> Result<AbsVal, OutOfMemory>
-        ensures value { IfOk result (λ v. v ≡ of_constant self.now.limits.now.size self.now.limits.now.ends scalar (Constant.Int case.now.value)) }
+        ensures value { IfOk result (λ v. v ≡ exactly_of scalar self.now.limits.now.size self.now.limits.now.ends (Constant.Int case.now.value)) }
         ensures good { IfOk result (IsGoodIn self.now scalar) }
     {
         self.limits.known();

@@ -25,7 +25,7 @@ pub use branches::Branch;
 pub use branching::{LabelledBlocks, branches_of, labels_of};
 pub use changes::{is_slot, target};
 pub use facts::{AbsVals, Facts, LoadFact, LoadFacts};
-pub use laws::{body_values_cross, values_found, values_hold};
+pub use laws::{body_parts_cross, body_values_cross, values_found, values_hold};
 pub use load_table::LoadTable;
 pub use program_tables::ProgramTables;
 pub use scene::{Scene, offset_of, pointer, scalar_of};
