@@ -46,11 +46,7 @@ fn accepted(alloc: Global, text: &[u8]) -> Result<Option<Checked>, OutOfMemory>
 }
 
 /// The function of a number, folded.
-fn folded_function(
-    alloc: Global,
-    program: &Checked,
-    number: u32,
-) -> Result<Function, OutOfMemory>
+fn folded_function(alloc: Global, program: &Checked, number: u32) -> Result<Function, OutOfMemory>
     requires countable { IsCountable program.now.program }
     requires within { number < length program.now.program.functions }
 {
