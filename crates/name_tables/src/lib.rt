@@ -1,7 +1,8 @@
-//! Rows of names, labels, registers, globals and locals, in which a long one is searched by hashing.
+//! Rows of names, labels, registers, globals, functions and locals, in which a long one is searched by hashing.
 #![tactic(auto)]
 
 mod labels;
+mod named_functions;
 mod named_globals;
 mod named_locals;
 mod names;
@@ -10,6 +11,7 @@ mod register_table;
 mod tests;
 
 pub use labels::Labels;
+pub use named_functions::NamedFunctions;
 pub use named_globals::NamedGlobals;
 pub use named_locals::NamedLocals;
 pub use names::Names;

@@ -1,8 +1,9 @@
 //! Rows that are long enough to be hashed, without and with a name that stands twice.
 
-use super::{Labels, NamedGlobals, NamedLocals, Names, RegisterTable};
+use super::{Labels, NamedFunctions, NamedGlobals, NamedLocals, Names, RegisterTable};
 use gimple_core::{
-    Decl, Decls, Global, Globals, Items, OutOfMemory, Register, Scalar, Shape, Text,
+    Blocks, Decl, Decls, Function, Functions, Global, Globals, Items, OutOfMemory, Register,
+    Registers, Scalar, Shape, Text,
 };
 use std::alloc::Global as Heap;
 use std::test::Fail;
@@ -58,6 +59,21 @@ fn globals(alloc: Heap, letters: &[u8]) -> Result<Globals, OutOfMemory> {
             decl: variable(alloc, &[letters[at]])?,
             constant: false,
             items: Items::new(alloc),
+        })?;
+    }
+    Ok(all)
+}
+
+fn functions(alloc: Heap, letters: &[u8]) -> Result<Functions, OutOfMemory> {
+    let mut all = Functions::new(alloc);
+    for at in 0..letters.len() {
+        all.push(Function {
+            name: Text::from_bytes(alloc, &[letters[at]])?,
+            params: Registers::new(alloc),
+            result: None,
+            locals: Decls::new(alloc),
+            registers: Registers::new(alloc),
+            blocks: Blocks::new(alloc),
         })?;
     }
     Ok(all)
@@ -120,6 +136,20 @@ fn globals_by_name(rt: HostRuntime) -> Result<(), Fail> {
     assert!(rt; table.place(&last) == Some(11));
     assert!(rt; table.has(&last) && !table.has(&missing));
     assert!(rt; table.named(&last).is_some() && table.get(12).is_none());
+    Ok(())
+}
+
+#[test]
+fn functions_by_name(rt: HostRuntime) -> Result<(), Fail> {
+    let alloc = rt.alloc();
+    let row = functions(alloc, b"abcdefghijbk")?;
+    let (second, missing) = (
+        Text::from_bytes(alloc, b"b")?,
+        Text::from_bytes(alloc, b"z")?,
+    );
+    let table = NamedFunctions::new(alloc, row.as_slice())?;
+    assert!(rt; table.len() == 12 && table.place(&second) == Some(1));
+    assert!(rt; table.named(&second).is_some() && table.named(&missing).is_none());
     Ok(())
 }
 
