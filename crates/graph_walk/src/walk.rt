@@ -25,7 +25,7 @@ pub fn reached_in(alloc: Heap, rows: &[Vec<u32>], root: usize) -> Result<Vec<boo
 /// nodes is followed once.
 ///
 /// Err is want of memory.
-pub fn walk_past(
+pub(crate) fn walk_past(
     alloc: Heap,
     rows: &[Vec<u32>],
     marks: &mut Vec<bool>,
