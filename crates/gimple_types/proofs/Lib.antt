@@ -1,11 +1,6 @@
 pub mod TableLemmas
-pub mod SizeLemmas
 pub mod ItemLemmas
 pub mod StructLemmas
 pub mod CountLemmas
 pub mod NameLemmas
 pub mod ProgramLemmas
-pub mod KeptLemmas
-pub mod SolidLemmas
-pub mod FieldLemmas
-pub mod StartLemmas

@@ -10,7 +10,8 @@ use Rattle.gimple_core.specs.Env.{Names, has, declared, structs_by_name}
 use Rattle.gimple_core.specs.Declarations.{sized, earlier_shape, fields, is_size}
 use Rattle.gimple_core.proofs.Passed.{first_passed, demanded}
 use Rattle.gimple_core.proofs.EnvLemmas.{has_append}
-use Rattle.gimple_types.specs.Sizes.{AreAmong, AreSmall}
+use Rattle.struct_tables.specs.Sizes.{AreSmall}
+use Rattle.gimple_types.specs.Tables.{AreAmong}
 
 -- fields that passed their checks are small
 pub fields_small : (all earlier : List StructDef) (seen : Names Decl) (fs : List Decl) → fields all earlier seen fs ≡ Ok tt → AreSmall (struct_layouts [] earlier) fs

@@ -7,11 +7,8 @@ use Rattle.std.specs.Cmp.Lexicographic.{bytes_decides}
 use Rattle.gimple_core.specs.Env.{Names, named, has, declared, new_or_twice}
 use Rattle.gimple_ir.specs.declared.declarations.Global.{Global}
 use Rattle.gimple_core.proofs.EnvLemmas.{has_append}
+use Rattle.struct_tables.proofs.KeptLemmas.{is_key}
 use Rattle.gimple_types.specs.Tables.{plain, noted, first_of_each}
-
--- the test of a borrowed key
-abbrev pub is_key : List ℕ → Bor (List ℕ) → Bool
-is_key name key = bytes_eq name key.now
 
 module _ {T : Type 0} where
   pub named_plain : (name : List ℕ) (es : List (Bor (List ℕ) × Bor T)) → named name (plain es) ≡ option_copied (lookup (is_key name) es)
@@ -38,10 +35,6 @@ module _ {T : Type 0} where
 
   pub noted_new : (names : Names T) (name : List ℕ) (item : T) → is_some (named name names) ≡ false → names ++ (name, item) ∷ [] ≡ noted names name item
   noted_new names name item h = ap (λ b. if b then names else names ++ (name, item) ∷ []) (sym h)
-
-pub no_value : {T : Type 0} (o : Option T) → is_some o ≡ false → o ≡ None
-no_value None h = refl
-no_value (Some x) h = absurd (true≢false h)
 
 module _ {T : Type 0} where
   -- a table that took a new item

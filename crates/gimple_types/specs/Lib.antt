@@ -1,4 +1,4 @@
 pub mod Tables
 pub mod Verdicts
-pub mod Sizes
+pub mod Items
 pub mod Seen

@@ -14,9 +14,10 @@ use crate::env::{Env, Known, Own};
 use crate::names::{Labels, Table};
 use crate::refusal::{Fail, Refusal, at, at_site, demand};
 use crate::statements::blocks;
-use crate::structs::Structs;
+use crate::structs::sized;
 use gimple_core::{Block, Decl, Function, Global, Register, Scalar, Shape, Site, TypeFault};
 use std::alloc::Global as Heap;
+use struct_tables::Structs;
 
 /// The struct that a variable names is there.
 pub(crate) fn known_shape<'a>(structs: &Structs<'a>, shape: &'a Shape) -> Result<(), u8>
@@ -146,7 +147,7 @@ fn local<'a>(known: &Known<'a>, own: &mut Own<'a>, decl: &'a Decl) -> Result<(),
     demand(!own.registers.has(name), 2)?;
     own.locals.declare(name, decl)?;
     known_shape(&known.structs, &decl.shape)?;
-    known.structs.sized(decl)?;
+    sized(&known.structs, decl)?;
     Ok(())
 }
 

@@ -1,8 +1,8 @@
 //! What names mean.
 
 use crate::names::{Labels, Table};
-use crate::structs::Structs;
 use gimple_core::{Decl, Function, Global, Register, Scalar};
+use struct_tables::Structs;
 
 /// What names mean in every function: the program's structs, globals and functions.
 #[derive(Drop)]

@@ -4,7 +4,8 @@ ghost use Rattle.std.specs.Prelude.{◌≡◌, [], ◌+◌, ◌<◌, ◌^◌, le
 ghost use Rattle.gimple_core.specs.Declarations as spec;
 ghost use Rattle.gimple_core.specs.Env.{has, globals_by_name};
 ghost use Rattle.gimple_core.specs.Layout.{layout_of};
-ghost use Rattle.gimple_types.specs.Sizes.{scalar_at, slot_item, items_from};
+ghost use Rattle.struct_tables.specs.Sizes.{scalar_at};
+ghost use Rattle.gimple_types.specs.Items.{slot_item, items_from};
 ghost use Rattle.gimple_types.specs.Tables.{first_of_each};
 ghost use Rattle.gimple_types.specs.Verdicts.{Becomes, Judges};
 
@@ -12,10 +13,11 @@ use crate::declare::known_shape;
 use crate::names::Table;
 use crate::refusal::{Fail, Refusal, at_site, demand};
 use crate::scalars::is_pointer;
-use crate::structs::Structs;
+use crate::structs::sized;
 use gimple_core::{Decl, Global, Operand, OutOfMemory, Scalar, Site, fits};
 use std::alloc::Global as Heap;
 use std::marker::Model;
+use struct_tables::Structs;
 
 /// All globals of a program, of which items may take the addresses. Two may have one name.
 #[derive(Drop)]
@@ -106,7 +108,7 @@ fn slot_item<'a>(
 }
 
 /// Each item of a global against its slot.
-#[tactic(auto, unfolding(crate::specs::Sizes::items_from))]
+#[tactic(auto, unfolding(crate::specs::Items::items_from))]
 fn items<'a>(
     structs: &Structs<'a>,
     all: &Everywhere<'a>,
@@ -136,7 +138,7 @@ fn one_global<'a>(
 {
     earlier.declare(global.decl.name.as_slice(), global)?;
     known_shape(structs, &global.decl.shape)?;
-    structs.sized(&global.decl)?;
+    sized(structs, &global.decl)?;
     demand(structs.has_slots(&global.decl, global.items.len()), 11)?;
     items(structs, all, &global.decl, global.items.as_slice())?;
     Ok(())

@@ -1,462 +1,35 @@
-//! Structs, and how their variables lie in memory. Slots are not listed: a place in a variable is followed from field to field.
+//! Checks of structs and of the sizes of variables.
 
-ghost use Rattle.std.specs.Prelude.{◌≡◌, false, ◌+◌, ◌*◌, ◌<◌, ◌≤◌, ◌^◌, [], ◌∷◌, ◌++◌, length, nat_le, pos, OnOk, IfOk};
-ghost use Rattle.std.specs.List.Sorted.{IsNonDecreasing};
-ghost use Rattle.std.specs.Option.{option_copied};
-ghost use Rattle.gimple_core.specs.Layout.{empty_layout, with_fields, decl_layout, shape_layout, struct_layouts, layout_of, count_of, round_up};
+ghost use Rattle.std.specs.Prelude.{◌≡◌, ◌<◌, ◌^◌, [], ◌∷◌, ◌++◌, length, OnOk, IfOk};
 ghost use Rattle.gimple_core.specs.Env.{has, structs_by_name};
-ghost use Rattle.gimple_core.specs.Statements.{has_slot};
 ghost use Rattle.gimple_core.specs.Declarations as spec;
+ghost use Rattle.gimple_core.specs.Layout.{count_of};
 ghost use Rattle.gimple_ir.specs.Counts.{AreNarrow};
-ghost use Rattle.gimple_types.specs.Sizes.{extent_of, extent_with, field_start, field_starts, first_layouts, scalar_at, slots_before, AreAmong, AreSmall, IsFieldFrom, IsFirst, LeadsTo, NumberLeadsTo};
+ghost use Rattle.gimple_types.specs.Tables.{AreAmong};
 ghost use Rattle.gimple_types.specs.Verdicts.{Becomes, Judges};
 
 use crate::names::Table;
 use crate::refusal::{Fail, Refusal, at_site, demand};
-use crate::scalars::same_scalar;
-use gimple_core::{Decl, OutOfMemory, Scalar, Shape, Site, StructDef, Text, bits};
-use indexmap::IndexMap;
+use gimple_core::{Decl, Shape, Site, StructDef, Text};
 use std::alloc::Global as Heap;
-use std::marker::Model;
+use struct_tables::Structs;
 
-/// The size and the alignment of a value in bytes, and how many slots it has.
-#[derive(Clone, Copy, Debug)]
-pub(crate) struct Extent {
-    pub(crate) size: u64,
-    pub(crate) align: u64,
-    pub(crate) slots: u64,
-}
-
-/// Where the fields of a struct begin, in order: at which byte each does, and how many slots stand before it.
-#[derive(Drop)]
-pub(crate) struct Starts {
-    pub(crate) offsets: Vec<u64>,
-    pub(crate) slots: Vec<u64>,
-}
-
-impl Starts {
-    /// No fields.
-    fn new(alloc: Heap) -> Starts
-        ensures offsets { result.offsets.items ≡ [] }
-        ensures slots { result.slots.items ≡ [] }
-    {
-        Starts {
-            offsets: Vec::new(alloc),
-            slots: Vec::new(alloc),
-        }
-    }
-
-    /// Adds a field.
-    fn push(&mut self, offset: u64, slot: u64) -> Result<(), OutOfMemory>
-        ensures offsets { OnOk result (self.new.offsets.items ≡ self.old.offsets.items ++ offset ∷ []) }
-        ensures slots { OnOk result (self.new.slots.items ≡ self.old.slots.items ++ slot ∷ []) }
-    {
-        self.offsets.push(offset)?;
-        self.slots.push(slot)?;
-        Ok(())
-    }
-}
-
-/// A struct that passed its checks.
-#[derive(Drop)]
-pub(crate) struct Kept<'a> {
-    pub(crate) definition: &'a StructDef,
-    /// How many structs stand before it.
-    pub(crate) number: usize,
-    pub(crate) extent: Extent,
-    pub(crate) starts: Starts,
-}
-
-/// What stands at a place in a variable: a slot, nothing, or a place in a field of a struct of a number.
-pub(crate) enum Inside<'a> {
-    Slot(Scalar),
-    Nothing,
-    Field {
-        number: usize,
-        field: &'a Decl,
-        rest: u64,
-    },
-}
-
-/// Structs that passed their checks, in file order.
-#[derive(Drop)]
-pub(crate) struct Structs<'a> {
-    map: IndexMap<&'a [u8], Kept<'a>>,
-}
-
-impl<'a> Model for Structs<'a> {
-    ghost use Rattle.std.specs.Prelude.{List, []};
-    ghost use Rattle.gimple_ir.specs.declared.declarations.StructDef.{StructDef};
-    ghost use Rattle.gimple_types.specs.Sizes.{definitions, AreKept};
-
-    ghost Value = { List StructDef };
-
-    ghost view = { λ t. definitions t.map.entries };
-
-    ghost invariant = { λ t. AreKept [] t.map.entries };
-}
-
-impl<'a> Structs<'a> {
-    /// No structs.
-    pub(crate) fn new(alloc: Heap) -> Structs<'a>
-        ensures { result ≡ [] }
-    {
-        Structs {
-            map: IndexMap::new(alloc),
-        }
-    }
-
-    /// Whether a struct has this name.
-    pub(crate) fn has(&self, name: &'a [u8]) -> bool
-        ensures { result ≡ has name.now (structs_by_name self.now) }
-    {
-        self.map.contains_key(&name)
-    }
-
-    /// The struct of this name, where it is one of the first.
-    fn found(&self, bound: usize, name: &'a Text) -> Option<&Kept<'a>>
-        ensures { IsFirst self.now bound name.now (option_copied result) }
-    {
-        match self.map.get(&name.as_slice()) {
-            Some(kept) => {
-                if kept.number < bound {
-                    return Some(kept);
-                }
-                None
-            }
-            None => None,
-        }
-    }
-
-    /// The extent of an element of this shape, where only the first structs are there.
-    fn element(&self, bound: usize, shape: &'a Shape) -> Extent
-        ensures { result ≡ extent_of (shape_layout (first_layouts bound self.now) shape.now) }
-    {
-        match shape {
-            Shape::Plain(scalar) => {
-                let width = u64::from(bits(*scalar) / 8);
-                Extent {
-                    size: width,
-                    align: width,
-                    slots: 1,
-                }
-            }
-            Shape::Named(name) => match self.found(bound, name) {
-                Some(kept) => kept.extent,
-                None => Extent {
-                    size: 0,
-                    align: 1,
-                    slots: 0,
-                },
-            },
-        }
-    }
-
-    /// The same, with the bounds that each extent keeps.
-    fn extent_before(&self, bound: usize, shape: &'a Shape) -> Extent
-        ensures same { result ≡ extent_of (shape_layout (first_layouts bound self.now) shape.now) }
-        ensures least { 1 ≤ result.align }
-        ensures most { result.align ≤ 8 }
-        ensures dense { result.slots ≤ result.size }
-        ensures small { result.size ≤ 16777216 }
-    {
-        let _ = &self.map;
-        self.element(bound, shape)
-    }
-
-    /// The extent of an element of this shape.
-    fn extent(&self, shape: &'a Shape) -> Extent
-        ensures same { result ≡ extent_of (shape_layout (struct_layouts [] self.now) shape.now) }
-        ensures least { 1 ≤ result.align }
-        ensures most { result.align ≤ 8 }
-        ensures dense { result.slots ≤ result.size }
-        ensures small { result.size ≤ 16777216 }
-    {
-        self.extent_before(self.map.len(), shape)
-    }
-
-    /// A variable's length is not 0, and its size at most 2^24.
-    #[tactic(auto, unfolding(gimple_core::specs::Declarations::sized, gimple_core::specs::Layout::layout_of))]
-    pub(crate) fn sized(&self, decl: &'a Decl) -> Result<(), u8>
-        ensures { result ≡ spec.sized self.now decl.now }
-    {
-        let count = count_of(decl.length);
-        demand(count != 0, 12)?;
-        let size = u128::from(count) * u128::from(self.extent(&decl.shape).size);
-        demand(size <= 16777216, 12)
-    }
-
-    /// Whether a variable has so many slots.
-    #[tactic(auto, unfolding(gimple_core::specs::Layout::layout_of), using(crate::proofs::SizeLemmas::repeated_length))]
-    pub(crate) fn has_slots(&self, decl: &'a Decl, least: usize) -> bool
-        ensures { result ≡ nat_le least (length (layout_of self.now decl.now).slots) }
-    {
-        let slots = u128::from(count_of(decl.length)) * u128::from(self.extent(&decl.shape).slots);
-        least as u128 <= slots
-    }
-
-    /// Whether a variable has a slot of this offset and scalar.
-    #[tactic(auto, using(crate::proofs::SizeLemmas::has_negative))]
-    pub(crate) fn has_slot(&self, decl: &'a Decl, offset: i128, scalar: Scalar) -> bool
-        ensures { result ≡ has_slot (layout_of self.now decl.now).slots offset scalar }
-    {
-        if offset < 0 {
-            return false;
-        }
-        self.has_slot_at(decl, offset as u128, scalar)
-    }
-
-    /// The same of an offset that is not negative.
-    fn has_slot_at(&self, decl: &'a Decl, offset: u128, scalar: Scalar) -> bool
-        ensures { result ≡ has_slot (layout_of self.now decl.now).slots (pos offset) scalar }
-    {
-        let mut bound = self.map.len();
-        let mut decl = decl;
-        let mut offset = offset;
-        loop {
-            match self.inside(bound, decl, offset) {
-                Inside::Slot(own) => return same_scalar(own, scalar),
-                Inside::Nothing => return false,
-                Inside::Field {
-                    number,
-                    field,
-                    rest,
-                } => {
-                    bound = number;
-                    decl = field;
-                    offset = u128::from(rest);
-                }
-            }
-        }
-    }
-
-    /// What stands at an offset in a variable behind the first structs.
-    fn inside(&self, bound: usize, decl: &'a Decl, offset: u128) -> Inside<'a>
-        ensures { LeadsTo self.now (decl_layout (first_layouts bound self.now) decl.now).slots offset bound result }
-    {
-        let _ = &self.map;
-        let size = self.extent_before(bound, &decl.shape).size;
-        if offset >= end_of(0, count_of(decl.length), size) {
-            return Inside::Nothing;
-        }
-        let within = (offset % u128::from(size)) as u64;
-        match &decl.shape {
-            Shape::Plain(scalar) => {
-                if within == 0 {
-                    return Inside::Slot(*scalar);
-                }
-                Inside::Nothing
-            }
-            Shape::Named(name) => match self.found(bound, name) {
-                Some(kept) => {
-                    let fields = kept.definition.fields.as_slice();
-                    let offsets = kept.starts.offsets.as_slice();
-                    field_from(kept.number, fields, offsets, within)
-                }
-                None => Inside::Nothing,
-            },
-        }
-    }
-
-    /// The scalar of a variable's slot of this number, counted from 0; None exactly past the last slot.
-    pub(crate) fn slot_scalar(&self, decl: &'a Decl, index: usize) -> Option<Scalar>
-        ensures { result ≡ scalar_at (layout_of self.now decl.now).slots index }
-    {
-        let mut bound = self.map.len();
-        let mut decl = decl;
-        let mut index = index as u64;
-        loop {
-            match self.numbered(bound, decl, index) {
-                Inside::Slot(own) => return Some(own),
-                Inside::Nothing => return None,
-                Inside::Field {
-                    number,
-                    field,
-                    rest,
-                } => {
-                    bound = number;
-                    decl = field;
-                    index = rest;
-                }
-            }
-        }
-    }
-
-    /// Where the slot of a number lies in a variable behind the first structs.
-    fn numbered(&self, bound: usize, decl: &'a Decl, index: u64) -> Inside<'a>
-        ensures { NumberLeadsTo self.now (decl_layout (first_layouts bound self.now) decl.now).slots index bound result }
-    {
-        let slots = self.extent_before(bound, &decl.shape).slots;
-        if u128::from(index) >= end_of(0, count_of(decl.length), slots) {
-            return Inside::Nothing;
-        }
-        let within = index % slots;
-        match &decl.shape {
-            Shape::Plain(scalar) => Inside::Slot(*scalar),
-            Shape::Named(name) => match self.found(bound, name) {
-                Some(kept) => {
-                    let fields = kept.definition.fields.as_slice();
-                    let starts = kept.starts.slots.as_slice();
-                    field_from(kept.number, fields, starts, within)
-                }
-                None => Inside::Nothing,
-            },
-        }
-    }
-
-    /// The struct that a field names is an earlier one.
-    fn earlier_shape(&self, all: &'a [StructDef], shape: &'a Shape) -> Result<(), u8>
-        requires { AreAmong self.now all.now }
-        ensures { result ≡ spec.earlier_shape (structs_by_name all.now) (structs_by_name self.now) shape.now }
-    {
-        match shape {
-            Shape::Plain(_) => Ok(()),
-            Shape::Named(name) => {
-                if self.has(name.as_slice()) {
-                    return Ok(());
-                }
-                demand(stands(all, name), 1)?;
-                Err(15)
-            }
-        }
-    }
-
-    /// The fields of a struct in order.
-    #[tactic(auto, unfolding(gimple_core::specs::Declarations::fields))]
-    fn fields(&self, alloc: Heap, all: &'a [StructDef], items: &'a [Decl]) -> Result<(), Fail>
-        requires { AreAmong self.now all.now }
-        ensures { Becomes (spec.fields all.now self.now [] items.now) result tt }
-    {
-        let mut seen = Table::new(alloc);
-        let mut rest = items;
-        while let [next, after @ ..] = rest {
-            seen.declare(next.name.as_slice(), next)?;
-            self.earlier_shape(all, &next.shape)?;
-            self.sized(next)?;
-            rest = after;
-        }
-        Ok(())
-    }
-
-    /// An extent with one more field, whose start is added to those of the fields before it.
-    fn with_field(
-        &self,
-        starts: &mut Starts,
-        whole: Extent,
-        field: &'a Decl,
-    ) -> Result<Extent, OutOfMemory>
-        requires size { whole.size < 2 ^ 62 }
-        requires dense { whole.slots ≤ whole.size }
-        requires small { (decl_layout (struct_layouts [] self.now) field.now).size ≤ 16777216 }
-        ensures same { IfOk result (λ e. e ≡ extent_with (struct_layouts [] self.now) whole field.now) }
-        ensures near { IfOk result (λ e. e.size ≤ whole.size + 16777224) }
-        ensures dense { IfOk result (λ e. e.slots ≤ e.size) }
-        ensures least { IfOk result (λ e. whole.align ≤ e.align) }
-        ensures most { IfOk result (λ e. whole.align ≤ 8 → e.align ≤ 8) }
-        ensures offsets { OnOk result (starts.new.offsets.items ≡ starts.old.offsets.items ++ field_start (struct_layouts [] self.now) whole.size field.now ∷ []) }
-        ensures slots { OnOk result (starts.new.slots.items ≡ starts.old.slots.items ++ whole.slots ∷ []) }
-    {
-        let one = self.extent(&field.shape);
-        let count = count_of(field.length);
-        let offset = next_multiple(whole.size, one.align);
-        starts.push(offset, whole.slots)?;
-        Ok(Extent {
-            size: offset + count * one.size,
-            align: whole.align.max(one.align),
-            slots: whole.slots + count * one.slots,
-        })
-    }
-
-    /// The extent of a struct of these fields behind these structs, and where each field begins.
-    fn of_fields(&self, starts: &mut Starts, fields: &'a [Decl]) -> Result<Extent, OutOfMemory>
-        requires few { length fields.now < 2 ^ 32 }
-        requires small { AreSmall (struct_layouts [] self.now) fields.now }
-        ensures extent { IfOk result (λ e. e ≡ extent_of (with_fields (struct_layouts [] self.now) empty_layout fields.now)) }
-        ensures offsets { OnOk result (starts.new.offsets.items ≡ starts.old.offsets.items ++ field_starts (struct_layouts [] self.now) 0 fields.now) }
-        ensures slots { OnOk result (starts.new.slots.items ≡ starts.old.slots.items ++ slots_before (struct_layouts [] self.now) 0 fields.now) }
-    {
-        let mut whole = Extent {
-            size: 0,
-            align: 1,
-            slots: 0,
-        };
-        let mut rest = fields;
-        while let [next, after @ ..] = rest {
-            whole = self.with_field(starts, whole, next)?;
-            rest = after;
-        }
-        Ok(Extent {
-            size: next_multiple(whole.size, whole.align),
-            align: whole.align,
-            slots: whole.slots,
-        })
-    }
-
-    /// Adds a struct, after its checks.
-    #[tactic(auto, unfolding(gimple_core::specs::Declarations::one_struct), using(crate::proofs::StructLemmas::fields_small))]
-    fn add(
-        &mut self,
-        alloc: Heap,
-        all: &'a [StructDef],
-        definition: &'a StructDef,
-    ) -> Result<(), Fail>
-        requires among { AreAmong self.old all.now }
-        requires few { length definition.now.fields < 2 ^ 32 }
-        ensures verdict { Becomes (spec.one_struct all.now self.old definition.now) result tt }
-        ensures more { OnOk result (self.new ≡ self.old ++ definition.now ∷ []) }
-    {
-        let name = definition.name.as_slice();
-        demand(!self.has(name), 2)?;
-        let fields = definition.fields.as_slice();
-        self.fields(alloc, all, fields)?;
-        demand(!definition.fields.is_empty(), 12)?;
-        let mut starts = Starts::new(alloc);
-        let extent = self.of_fields(&mut starts, fields)?;
-        demand(extent.size <= 16777216, 12)?;
-        self.keep(definition, extent, starts)?;
-        Ok(())
-    }
-
-    /// Keeps a struct of a new name, with its extent and where its fields begin.
-    fn keep(
-        &mut self,
-        definition: &'a StructDef,
-        extent: Extent,
-        starts: Starts,
-    ) -> Result<(), OutOfMemory>
-        requires new { has definition.now.name (structs_by_name self.old) ≡ false }
-        requires same { extent ≡ extent_of (with_fields (struct_layouts [] self.old) empty_layout definition.now.fields) }
-        requires small { extent.size ≤ 16777216 }
-        requires offsets { starts.offsets.items ≡ field_starts (struct_layouts [] self.old) 0 definition.now.fields }
-        requires slots { starts.slots.items ≡ slots_before (struct_layouts [] self.old) 0 definition.now.fields }
-        ensures { OnOk result (self.new ≡ self.old ++ definition.now ∷ []) }
-    {
-        let kept = Kept {
-            definition,
-            number: self.map.len(),
-            extent,
-            starts,
-        };
-        self.map.insert(definition.name.as_slice(), kept)?;
-        Ok(())
-    }
-}
-
-/// The last field of the struct of a number that begins at a place or before it, where the fields begin at these places.
-fn field_from<'a>(number: usize, fields: &'a [Decl], starts: &[u64], place: u64) -> Inside<'a>
-    requires ascending { IsNonDecreasing starts.now }
-    requires each { length starts.now ≡ length fields.now }
-    ensures { IsFieldFrom fields.now starts.now number place result }
+/// The length of an array, and 1 for what is none.
+fn count_of(length: Option<u64>) -> u64
+    ensures { result ≡ count_of length }
 {
-    let behind = starts.partition_point(|start| *start <= place);
-    if behind == 0 {
-        return Inside::Nothing;
-    }
-    Inside::Field {
-        number,
-        field: &fields[behind - 1],
-        rest: place - starts[behind - 1],
-    }
+    length.unwrap_or(1)
+}
+
+/// A variable's length is not 0, and its size at most 2^24.
+#[tactic(auto, unfolding(gimple_core::specs::Declarations::sized, gimple_core::specs::Layout::layout_of))]
+pub(crate) fn sized<'a>(structs: &Structs<'a>, decl: &'a Decl) -> Result<(), u8>
+    ensures { result ≡ spec.sized structs.now decl.now }
+{
+    let count = count_of(decl.length);
+    demand(count != 0, 12)?;
+    let size = u128::from(count) * u128::from(structs.extent(&decl.shape).size);
+    demand(size <= 16777216, 12)
 }
 
 /// Whether a struct of this name stands in a list.
@@ -473,32 +46,67 @@ fn stands(all: &[StructDef], name: &Text) -> bool
     false
 }
 
-/// The length of an array, and 1 for what is none.
-fn count_of(length: Option<u64>) -> u64
-    ensures { result ≡ count_of length }
+/// The struct that a field names is an earlier one.
+fn earlier_shape<'a>(
+    earlier: &Structs<'a>,
+    all: &'a [StructDef],
+    shape: &'a Shape,
+) -> Result<(), u8>
+    requires { AreAmong earlier.now all.now }
+    ensures { result ≡ spec.earlier_shape (structs_by_name all.now) (structs_by_name earlier.now) shape.now }
 {
-    match length {
-        Some(count) => count,
-        None => 1,
+    match shape {
+        Shape::Plain(_) => Ok(()),
+        Shape::Named(name) => {
+            if earlier.has(name.as_slice()) {
+                return Ok(());
+            }
+            demand(stands(all, name), 1)?;
+            Err(15)
+        }
     }
 }
 
-/// Where some items of a size end.
-fn end_of(start: u64, count: u64, size: u64) -> u128
-    ensures { result ≡ start + count * size }
+/// The fields of a struct in order.
+#[tactic(auto, unfolding(gimple_core::specs::Declarations::fields))]
+fn fields<'a>(
+    alloc: Heap,
+    earlier: &Structs<'a>,
+    all: &'a [StructDef],
+    items: &'a [Decl],
+) -> Result<(), Fail>
+    requires { AreAmong earlier.now all.now }
+    ensures { Becomes (spec.fields all.now earlier.now [] items.now) result tt }
 {
-    u128::from(start) + u128::from(count) * u128::from(size)
+    let mut seen = Table::new(alloc);
+    let mut rest = items;
+    while let [next, after @ ..] = rest {
+        seen.declare(next.name.as_slice(), next)?;
+        earlier_shape(earlier, all, &next.shape)?;
+        sized(earlier, next)?;
+        rest = after;
+    }
+    Ok(())
 }
 
-/// The least multiple of an alignment that is not below a number.
-fn next_multiple(n: u64, align: u64) -> u64
-    requires n { n < 2 ^ 63 }
-    requires least { 1 ≤ align }
-    requires most { align ≤ 8 }
-    ensures same { result ≡ round_up n align }
-    ensures near { result < n + 8 }
+/// Adds a struct, after its checks.
+#[tactic(auto, unfolding(gimple_core::specs::Declarations::one_struct), using(crate::proofs::StructLemmas::fields_small))]
+fn one_struct<'a>(
+    alloc: Heap,
+    earlier: &mut Structs<'a>,
+    all: &'a [StructDef],
+    definition: &'a StructDef,
+) -> Result<(), Fail>
+    requires among { AreAmong earlier.old all.now }
+    requires few { length definition.now.fields < 2 ^ 32 }
+    ensures verdict { Becomes (spec.one_struct all.now earlier.old definition.now) result tt }
+    ensures more { OnOk result (earlier.new ≡ earlier.old ++ definition.now ∷ []) }
 {
-    (n + (align - 1)) / align * align
+    demand(!earlier.has(definition.name.as_slice()), 2)?;
+    fields(alloc, earlier, all, definition.fields.as_slice())?;
+    demand(!definition.fields.is_empty(), 12)?;
+    demand(earlier.push(definition)?, 12)?;
+    Ok(())
 }
 
 /// The checks of each struct in order, and the structs.
@@ -513,7 +121,7 @@ pub(crate) fn all_structs<'a>(alloc: Heap, items: &'a [StructDef]) -> Result<Str
     let mut number = 0;
     let mut rest = items;
     while let [next, after @ ..] = rest {
-        match earlier.add(alloc, items, next) {
+        match one_struct(alloc, &mut earlier, items, next) {
             Ok(()) => {}
             Err(fail) => return Err(at_site(Site::Struct(number), fail)),
         }

@@ -1,6 +1,6 @@
 use Rattle.std.proofs.Common.{◌≡◌, ◌+◌, ◌<◌, ◌^◌, length}
 use Rattle.gimple_core.specs.Layout.{layout_of}
-use Rattle.gimple_types.specs.Sizes.{items_from}
+use Rattle.gimple_types.specs.Items.{items_from}
 use Rattle.gimple_types.proofs.globals.items.Given as goal
 
 abbrev pub invariant-loop-rest : goal.invariant-loop-rest

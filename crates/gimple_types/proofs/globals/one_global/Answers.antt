@@ -4,7 +4,7 @@ use Rattle.gimple_core.specs.Declarations as spec
 use Rattle.gimple_core.specs.Env.{declared, structs_by_name}
 use Rattle.gimple_core.specs.Layout.{layout_of}
 use Rattle.gimple_core.specs.Verdict.{demand}
-use Rattle.gimple_types.specs.Sizes.{items_from}
+use Rattle.gimple_types.specs.Items.{items_from}
 use Rattle.gimple_types.proofs.ItemLemmas.{all_items_are}
 use Rattle.gimple_types.proofs.globals.one_global.Goals as goal
 

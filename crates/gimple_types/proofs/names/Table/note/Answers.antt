@@ -1,6 +1,7 @@
 use Rattle.std.proofs.Common.{◌≡◌, ap, sym, ◌∙◌, not, is_some, true, false, [], ◌∷◌, ◌++◌}
 use Rattle.indexmap.proofs.CallerLemmas.{insert_entry-new}
-use Rattle.gimple_types.proofs.TableLemmas.{found_plain, plain_pushed, noted_old, noted_new, no_value}
+use Rattle.gimple_types.proofs.TableLemmas.{found_plain, plain_pushed, noted_old, noted_new}
+use Rattle.struct_tables.proofs.KeptLemmas.{no_value}
 use Rattle.gimple_core.specs.Env.{named}
 use Rattle.gimple_types.specs.Tables.{plain}
 use Rattle.gimple_types.proofs.names.Table.note.Goals as goal

@@ -1,0 +1,6 @@
+pub mod SizeLemmas
+pub mod SolidLemmas
+pub mod FieldLemmas
+pub mod NumberedLemmas
+pub mod StartLemmas
+pub mod KeptLemmas

@@ -1,0 +1,6 @@
+//! Structs of a program, and how variables of their shapes lie in memory: sizes, and the slot at a place or of a number, found without listing slots.
+#![tactic(auto)]
+
+mod structs;
+
+pub use structs::{Extent, Structs};

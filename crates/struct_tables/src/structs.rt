@@ -1,0 +1,440 @@
+//! Structs, and how their variables lie in memory. Slots are not listed: a place in a variable is followed from field to field.
+
+ghost use Rattle.std.specs.Prelude.{◌≡◌, false, ◌+◌, ◌*◌, ◌<◌, ◌≤◌, ◌^◌, [], ◌∷◌, ◌++◌, length, nat_le, pos, OnOk, OnErr, IfOk, if◌then◌else◌};
+ghost use Rattle.std.specs.List.Sorted.{IsNonDecreasing};
+ghost use Rattle.std.specs.Option.{option_copied};
+ghost use Rattle.gimple_core.specs.Layout.{empty_layout, with_fields, decl_layout, shape_layout, struct_layouts, layout_of, count_of, round_up};
+ghost use Rattle.gimple_core.specs.Env.{has, structs_by_name};
+ghost use Rattle.gimple_core.specs.Memory.{same_scalar};
+ghost use Rattle.gimple_core.specs.Statements.{has_slot};
+ghost use Rattle.gimple_core.specs.Declarations.{is_size, struct_size};
+ghost use Rattle.struct_tables.specs.Sizes.{extent_of, extent_with, field_start, field_starts, first_layouts, scalar_at, slots_before, AreSmall, IsFieldFrom, IsFirst, LeadsTo, NumberLeadsTo};
+
+use gimple_core::{Decl, OutOfMemory, Scalar, Shape, StructDef, Text, bits};
+use indexmap::IndexMap;
+use std::alloc::Global as Heap;
+use std::marker::Model;
+
+/// How large a value is: its size and its alignment in bytes, and how many slots it has.
+#[derive(Clone, Copy, Debug)]
+pub struct Extent {
+    pub size: u64,
+    pub align: u64,
+    pub slots: u64,
+}
+
+/// Where the fields of a struct begin, in order: at which byte each does, and how many slots stand before it.
+#[derive(Drop)]
+pub(crate) struct Starts {
+    pub(crate) offsets: Vec<u64>,
+    pub(crate) slots: Vec<u64>,
+}
+
+impl Starts {
+    /// No fields.
+    fn new(alloc: Heap) -> Starts
+        ensures offsets { result.offsets.items ≡ [] }
+        ensures slots { result.slots.items ≡ [] }
+    {
+        Starts {
+            offsets: Vec::new(alloc),
+            slots: Vec::new(alloc),
+        }
+    }
+
+    /// Adds a field.
+    fn push(&mut self, offset: u64, slot: u64) -> Result<(), OutOfMemory>
+        ensures offsets { OnOk result (self.new.offsets.items ≡ self.old.offsets.items ++ offset ∷ []) }
+        ensures slots { OnOk result (self.new.slots.items ≡ self.old.slots.items ++ slot ∷ []) }
+    {
+        self.offsets.push(offset)?;
+        self.slots.push(slot)?;
+        Ok(())
+    }
+}
+
+/// A struct with its number, its extent, and where its fields begin.
+#[derive(Drop)]
+pub(crate) struct Kept<'a> {
+    pub(crate) definition: &'a StructDef,
+    /// How many structs stand before it.
+    pub(crate) number: usize,
+    pub(crate) extent: Extent,
+    pub(crate) starts: Starts,
+}
+
+/// What stands at a place in a variable: a slot, nothing, or a place in a field of a struct of a number.
+pub(crate) enum Inside<'a> {
+    Slot(Scalar),
+    Nothing,
+    Field {
+        number: usize,
+        field: &'a Decl,
+        rest: u64,
+    },
+}
+
+/// Structs in file order, no two of one name and none larger than 2^24 bytes. A field lies at the least multiple of its alignment behind the field before it, and a struct ends at a multiple of its own
+/// alignment, which is the largest of its fields; its size is 0 and its alignment 1 where no struct before has the name that a field gives.
+#[derive(Drop)]
+pub struct Structs<'a> {
+    map: IndexMap<&'a [u8], Kept<'a>>,
+}
+
+impl<'a> Model for Structs<'a> {
+    ghost use Rattle.std.specs.Prelude.{List, []};
+    ghost use Rattle.gimple_ir.specs.declared.declarations.StructDef.{StructDef};
+    ghost use Rattle.struct_tables.specs.Sizes.{definitions, AreKept};
+
+    ghost Value = { List StructDef };
+
+    ghost view = { λ t. definitions t.map.entries };
+
+    ghost invariant = { λ t. AreKept [] t.map.entries };
+}
+
+impl<'a> Structs<'a> {
+    /// No structs.
+    pub fn new(alloc: Heap) -> Structs<'a>
+        ensures { result ≡ [] }
+    {
+        Structs {
+            map: IndexMap::new(alloc),
+        }
+    }
+
+    /// Whether a struct has this name.
+    pub fn has(&self, name: &'a [u8]) -> bool
+        ensures { result ≡ has name.now (structs_by_name self.now) }
+    {
+        self.map.contains_key(&name)
+    }
+
+    /// The struct of this name, where it is one of the first.
+    fn found(&self, bound: usize, name: &'a Text) -> Option<&Kept<'a>>
+        ensures { IsFirst self.now bound name.now (option_copied result) }
+    {
+        match self.map.get(&name.as_slice()) {
+            Some(kept) => {
+                if kept.number < bound {
+                    return Some(kept);
+                }
+                None
+            }
+            None => None,
+        }
+    }
+
+    /// The extent of an element of this shape, where only the first structs are there.
+    fn element(&self, bound: usize, shape: &'a Shape) -> Extent
+        ensures { result ≡ extent_of (shape_layout (first_layouts bound self.now) shape.now) }
+    {
+        match shape {
+            Shape::Plain(scalar) => {
+                let width = u64::from(bits(*scalar) / 8);
+                Extent {
+                    size: width,
+                    align: width,
+                    slots: 1,
+                }
+            }
+            Shape::Named(name) => match self.found(bound, name) {
+                Some(kept) => kept.extent,
+                None => Extent {
+                    size: 0,
+                    align: 1,
+                    slots: 0,
+                },
+            },
+        }
+    }
+
+    /// The same, with the bounds that each extent keeps.
+    fn extent_before(&self, bound: usize, shape: &'a Shape) -> Extent
+        ensures same { result ≡ extent_of (shape_layout (first_layouts bound self.now) shape.now) }
+        ensures least { 1 ≤ result.align }
+        ensures most { result.align ≤ 8 }
+        ensures dense { result.slots ≤ result.size }
+        ensures small { result.size ≤ 16777216 }
+    {
+        let _ = &self.map;
+        self.element(bound, shape)
+    }
+
+    /// The extent of a value of this shape; that of a struct that is not there is 0 bytes, aligned to 1, without slots.
+    pub fn extent(&self, shape: &'a Shape) -> Extent
+        ensures same { result ≡ extent_of (shape_layout (struct_layouts [] self.now) shape.now) }
+        ensures least { 1 ≤ result.align }
+        ensures most { result.align ≤ 8 }
+        ensures dense { result.slots ≤ result.size }
+        ensures small { result.size ≤ 16777216 }
+    {
+        self.extent_before(self.map.len(), shape)
+    }
+
+    /// Whether a variable has at least so many slots.
+    #[tactic(auto, unfolding(gimple_core::specs::Layout::layout_of), using(crate::proofs::SizeLemmas::repeated_length))]
+    pub fn has_slots(&self, decl: &'a Decl, least: usize) -> bool
+        ensures { result ≡ nat_le least (length (layout_of self.now decl.now).slots) }
+    {
+        let slots = u128::from(count_of(decl.length)) * u128::from(self.extent(&decl.shape).slots);
+        least as u128 <= slots
+    }
+
+    /// Whether a variable has a slot of this offset and scalar.
+    #[tactic(auto, using(crate::proofs::SizeLemmas::has_negative))]
+    pub fn has_slot(&self, decl: &'a Decl, offset: i128, scalar: Scalar) -> bool
+        ensures { result ≡ has_slot (layout_of self.now decl.now).slots offset scalar }
+    {
+        if offset < 0 {
+            return false;
+        }
+        self.has_slot_at(decl, offset as u128, scalar)
+    }
+
+    /// The same of an offset that is not negative.
+    fn has_slot_at(&self, decl: &'a Decl, offset: u128, scalar: Scalar) -> bool
+        ensures { result ≡ has_slot (layout_of self.now decl.now).slots (pos offset) scalar }
+    {
+        let mut bound = self.map.len();
+        let mut decl = decl;
+        let mut offset = offset;
+        loop {
+            match self.inside(bound, decl, offset) {
+                Inside::Slot(own) => return same_scalar(own, scalar),
+                Inside::Nothing => return false,
+                Inside::Field {
+                    number,
+                    field,
+                    rest,
+                } => {
+                    bound = number;
+                    decl = field;
+                    offset = u128::from(rest);
+                }
+            }
+        }
+    }
+
+    /// What stands at an offset in a variable behind the first structs.
+    fn inside(&self, bound: usize, decl: &'a Decl, offset: u128) -> Inside<'a>
+        ensures { LeadsTo self.now (decl_layout (first_layouts bound self.now) decl.now).slots offset bound result }
+    {
+        let _ = &self.map;
+        let size = self.extent_before(bound, &decl.shape).size;
+        if offset >= end_of(0, count_of(decl.length), size) {
+            return Inside::Nothing;
+        }
+        let within = (offset % u128::from(size)) as u64;
+        match &decl.shape {
+            Shape::Plain(scalar) => {
+                if within == 0 {
+                    return Inside::Slot(*scalar);
+                }
+                Inside::Nothing
+            }
+            Shape::Named(name) => match self.found(bound, name) {
+                Some(kept) => {
+                    let fields = kept.definition.fields.as_slice();
+                    let offsets = kept.starts.offsets.as_slice();
+                    field_from(kept.number, fields, offsets, within)
+                }
+                None => Inside::Nothing,
+            },
+        }
+    }
+
+    /// The scalar of a variable's slot of this number, counted from 0; None exactly past the last slot.
+    pub fn slot_scalar(&self, decl: &'a Decl, index: usize) -> Option<Scalar>
+        ensures { result ≡ scalar_at (layout_of self.now decl.now).slots index }
+    {
+        let mut bound = self.map.len();
+        let mut decl = decl;
+        let mut index = index as u64;
+        loop {
+            match self.numbered(bound, decl, index) {
+                Inside::Slot(own) => return Some(own),
+                Inside::Nothing => return None,
+                Inside::Field {
+                    number,
+                    field,
+                    rest,
+                } => {
+                    bound = number;
+                    decl = field;
+                    index = rest;
+                }
+            }
+        }
+    }
+
+    /// Where the slot of a number lies in a variable behind the first structs.
+    fn numbered(&self, bound: usize, decl: &'a Decl, index: u64) -> Inside<'a>
+        ensures { NumberLeadsTo self.now (decl_layout (first_layouts bound self.now) decl.now).slots index bound result }
+    {
+        let slots = self.extent_before(bound, &decl.shape).slots;
+        if u128::from(index) >= end_of(0, count_of(decl.length), slots) {
+            return Inside::Nothing;
+        }
+        let within = index % slots;
+        match &decl.shape {
+            Shape::Plain(scalar) => Inside::Slot(*scalar),
+            Shape::Named(name) => match self.found(bound, name) {
+                Some(kept) => {
+                    let fields = kept.definition.fields.as_slice();
+                    let starts = kept.starts.slots.as_slice();
+                    field_from(kept.number, fields, starts, within)
+                }
+                None => Inside::Nothing,
+            },
+        }
+    }
+
+    /// An extent with one more field, whose start is added to those of the fields before it.
+    fn with_field(
+        &self,
+        starts: &mut Starts,
+        whole: Extent,
+        field: &'a Decl,
+    ) -> Result<Extent, OutOfMemory>
+        requires size { whole.size < 2 ^ 62 }
+        requires dense { whole.slots ≤ whole.size }
+        requires small { (decl_layout (struct_layouts [] self.now) field.now).size ≤ 16777216 }
+        ensures same { IfOk result (λ e. e ≡ extent_with (struct_layouts [] self.now) whole field.now) }
+        ensures near { IfOk result (λ e. e.size ≤ whole.size + 16777224) }
+        ensures dense { IfOk result (λ e. e.slots ≤ e.size) }
+        ensures least { IfOk result (λ e. whole.align ≤ e.align) }
+        ensures most { IfOk result (λ e. whole.align ≤ 8 → e.align ≤ 8) }
+        ensures offsets { OnOk result (starts.new.offsets.items ≡ starts.old.offsets.items ++ field_start (struct_layouts [] self.now) whole.size field.now ∷ []) }
+        ensures slots { OnOk result (starts.new.slots.items ≡ starts.old.slots.items ++ whole.slots ∷ []) }
+    {
+        let one = self.extent(&field.shape);
+        let count = count_of(field.length);
+        let offset = next_multiple(whole.size, one.align);
+        starts.push(offset, whole.slots)?;
+        Ok(Extent {
+            size: offset + count * one.size,
+            align: whole.align.max(one.align),
+            slots: whole.slots + count * one.slots,
+        })
+    }
+
+    /// The extent of a struct of these fields behind these structs, and where each field begins.
+    fn of_fields(&self, starts: &mut Starts, fields: &'a [Decl]) -> Result<Extent, OutOfMemory>
+        requires few { length fields.now < 2 ^ 32 }
+        requires small { AreSmall (struct_layouts [] self.now) fields.now }
+        ensures extent { IfOk result (λ e. e ≡ extent_of (with_fields (struct_layouts [] self.now) empty_layout fields.now)) }
+        ensures offsets { OnOk result (starts.new.offsets.items ≡ starts.old.offsets.items ++ field_starts (struct_layouts [] self.now) 0 fields.now) }
+        ensures slots { OnOk result (starts.new.slots.items ≡ starts.old.slots.items ++ slots_before (struct_layouts [] self.now) 0 fields.now) }
+    {
+        let mut whole = Extent {
+            size: 0,
+            align: 1,
+            slots: 0,
+        };
+        let mut rest = fields;
+        while let [next, after @ ..] = rest {
+            whole = self.with_field(starts, whole, next)?;
+            rest = after;
+        }
+        Ok(Extent {
+            size: next_multiple(whole.size, whole.align),
+            align: whole.align,
+            slots: whole.slots,
+        })
+    }
+
+    /// Adds a struct of a new name behind the others, unless it is larger than 2^24 bytes. Ok says whether it was added. Err is want of memory, and the structs are what they were.
+    pub fn push(&mut self, definition: &'a StructDef) -> Result<bool, OutOfMemory>
+        requires new { has definition.now.name (structs_by_name self.old) ≡ false }
+        requires few { length definition.now.fields < 2 ^ 32 }
+        requires small { AreSmall (struct_layouts [] self.old) definition.now.fields }
+        ensures fits { IfOk result (λ added. added ≡ is_size (struct_size self.old definition.now.fields)) }
+        ensures more { IfOk result (λ added. self.new ≡ (if added then self.old ++ definition.now ∷ [] else self.old)) }
+        ensures err { OnErr result (self.new ≡ self.old) }
+    {
+        let mut starts = Starts::new(*self.map.allocator());
+        let extent = self.of_fields(&mut starts, definition.fields.as_slice())?;
+        if extent.size > 16777216 {
+            return Ok(false);
+        }
+        self.keep(definition, extent, starts)?;
+        Ok(true)
+    }
+
+    /// Keeps a struct of a new name, with its extent and where its fields begin.
+    fn keep(
+        &mut self,
+        definition: &'a StructDef,
+        extent: Extent,
+        starts: Starts,
+    ) -> Result<(), OutOfMemory>
+        requires new { has definition.now.name (structs_by_name self.old) ≡ false }
+        requires same { extent ≡ extent_of (with_fields (struct_layouts [] self.old) empty_layout definition.now.fields) }
+        requires small { extent.size ≤ 16777216 }
+        requires offsets { starts.offsets.items ≡ field_starts (struct_layouts [] self.old) 0 definition.now.fields }
+        requires slots { starts.slots.items ≡ slots_before (struct_layouts [] self.old) 0 definition.now.fields }
+        ensures more { OnOk result (self.new ≡ self.old ++ definition.now ∷ []) }
+        ensures err { OnErr result (self.new ≡ self.old) }
+    {
+        let kept = Kept {
+            definition,
+            number: self.map.len(),
+            extent,
+            starts,
+        };
+        self.map.insert(definition.name.as_slice(), kept)?;
+        Ok(())
+    }
+}
+
+/// The last field of the struct of a number that begins at a place or before it, where the fields begin at these places.
+fn field_from<'a>(number: usize, fields: &'a [Decl], starts: &[u64], place: u64) -> Inside<'a>
+    requires ascending { IsNonDecreasing starts.now }
+    requires each { length starts.now ≡ length fields.now }
+    ensures { IsFieldFrom fields.now starts.now number place result }
+{
+    let behind = starts.partition_point(|start| *start <= place);
+    if behind == 0 {
+        return Inside::Nothing;
+    }
+    Inside::Field {
+        number,
+        field: &fields[behind - 1],
+        rest: place - starts[behind - 1],
+    }
+}
+
+fn same_scalar(left: Scalar, right: Scalar) -> bool
+    ensures { result ≡ same_scalar left right }
+{
+    left == right
+}
+
+/// The length of an array, and 1 for what is none.
+fn count_of(length: Option<u64>) -> u64
+    ensures { result ≡ count_of length }
+{
+    match length {
+        Some(count) => count,
+        None => 1,
+    }
+}
+
+/// Where some items of a size end.
+fn end_of(start: u64, count: u64, size: u64) -> u128
+    ensures { result ≡ start + count * size }
+{
+    u128::from(start) + u128::from(count) * u128::from(size)
+}
+
+/// The least multiple of an alignment that is not below a number.
+fn next_multiple(n: u64, align: u64) -> u64
+    requires n { n < 2 ^ 63 }
+    requires least { 1 ≤ align }
+    requires most { align ≤ 8 }
+    ensures same { result ≡ round_up n align }
+    ensures near { result < n + 8 }
+{
+    (n + (align - 1)) / align * align
+}
