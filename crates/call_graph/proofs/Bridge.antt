@@ -109,8 +109,8 @@ edge_begins p e h =
     let low = slice_get_within p.functions call.place call.function call.stands in
     omega (arith, low, call.call.caller)
 
-pub edges_are : (p : Program) (fs : List Function) (names : List (List ℕ)) (es : List Edge) → fs ≡ p.functions → names ≡ map (λ f. f.name) fs → es ≡ function_edges names 0 fs → es ≡ edges_of p
+pub edges_are : (p : Program) (fs callees : List Function) (es : List Edge) → fs ≡ p.functions → callees ≡ fs → es ≡ function_edges (map (λ f. f.name) callees) 0 fs → es ≡ edges_of p
 unfolding edges_of
-edges_are p fs names es f n e =
-    let named : names ≡ names_of p = n ∙ ap (map (λ (g : Function). g.name)) f in
+edges_are p fs callees es f n e =
+    let named : map (λ g. g.name) callees ≡ names_of p = ap (map (λ (g : Function). g.name)) (n ∙ f) in
     e ∙ (λ i. function_edges (named i) 0 (f i))

@@ -1,5 +1,5 @@
 -- Names of functions and their numbers.
-use Rattle.std.proofs.Common.{◌≡◌, ℕ, ◌+◌, ◌<◌, ◌≤◌, Bool, true, false, cond, not, nat_lt, List, [], ◌∷◌, ◌++◌, map, length, take, get_or, inl, inr, Some, None, refl, sym, ◌∙◌, ap, subst, arith, slice_get}
+use Rattle.std.proofs.Common.{◌≡◌, ℕ, ◌+◌, ◌≤◌, Bool, true, false, cond, not, nat_lt, List, [], ◌∷◌, map, length, get_or, inl, inr, Some, None, refl, sym, ◌∙◌, ap, subst, arith, slice_get}
 use Rattle.std.specs.List.{position, position_or_len}
 use Rattle.std.proofs.lemmas.Bool.{ltb-false, cases_Bool}
 use Rattle.std.proofs.lemmas.List.Folds.{find_at}
@@ -11,37 +11,39 @@ use Rattle.gimple_core.specs.Names.{same_name}
 use Rattle.gimple_core.proofs.NameLemmas.{same_name_true, same_name_self}
 use Rattle.call_graph.specs.Calls.{number_in, AreDistinct}
 
+-- the place of the first function of a name is the name's number
+named_place : (fs : List Function) (name : List ℕ) → position_or_len (λ f. same_name f.name name) fs ≡ number_in (map (λ f. f.name) fs) name
+unfolding number_in
+named_place [] name = refl
+named_place (f ∷ fs) name = λ i. cond (not (same_name f.name name)) (1 + named_place fs name i) 0
+
 found_place : (b : Bool) (n i : ℕ) → cond b (Some n) None ≡ Some i → i ≡ n
 found_place true n i h = cc
 found_place false n i h = cc
 
--- the place of a name is its number
-pub found_number : (names : List (List ℕ)) (name : List ℕ) (i : ℕ) → position (λ n. same_name n name) names ≡ Some i → i ≡ number_in names name
-unfolding number_in
-found_number names name i h = found_place _ _ i h
+-- a place that was found is the number of the name
+pub found_number : (fs : List Function) (name : List ℕ) (i : ℕ) → position (λ f. same_name f.name name) fs ≡ Some i → i ≡ number_in (map (λ f. f.name) fs) name
+found_number fs name i h = found_place _ _ i h ∙ named_place fs name
 
 missing_place : (b : Bool) (n : ℕ) → cond b (Some n) None ≡ None → b ≡ false
 missing_place true n h = cc
 missing_place false n h = refl
 
 -- a name that has no place has the number after the last one
-pub missing_number : (names : List (List ℕ)) (name : List ℕ) → position (λ n. same_name n name) names ≡ None → length names ≡ number_in names name
-unfolding number_in
-missing_number names name h =
-    let n = position_or_len (λ n. same_name n name) names in
-    let high : length names ≤ n = ltb-false n (length names) (missing_place (nat_lt n (length names)) n h) in
-    let low : n ≤ length names = prefix_len-le-length (λ n. not (same_name n name)) names in
-    omega (arith, high, low)
+pub missing_number : (fs : List Function) (name : List ℕ) → position (λ f. same_name f.name name) fs ≡ None → length fs ≡ number_in (map (λ f. f.name) fs) name
+missing_number fs name h =
+    let n = position_or_len (λ (f : Function). same_name f.name name) fs in
+    let high : length fs ≤ n = ltb-false n (length fs) (missing_place (nat_lt n (length fs)) n h) in
+    let low : n ≤ length fs = prefix_len-le-length (λ (f : Function). not (same_name f.name name)) fs in
+    let same : length fs ≡ n = omega (arith, high, low) in
+    same ∙ named_place fs name
 
 -- the number of a name is that of a function, or how many functions there are
-pub number_within : (names : List (List ℕ)) (name : List ℕ) → number_in names name ≤ length names
-unfolding number_in
-number_within names name = prefix_len-le-length (λ n. not (same_name n name)) names
-
-named_place : (fs : List Function) (name : List ℕ) → position_or_len (λ f. same_name f.name name) fs ≡ number_in (map (λ f. f.name) fs) name
-unfolding number_in
-named_place [] name = refl
-named_place (f ∷ fs) name = λ i. cond (not (same_name f.name name)) (1 + named_place fs name i) 0
+pub number_within : (fs : List Function) (name : List ℕ) → number_in (map (λ f. f.name) fs) name ≤ length fs
+number_within fs name =
+    let low : position_or_len (λ f. same_name f.name name) fs ≤ length fs = prefix_len-le-length (λ (f : Function). not (same_name f.name name)) fs in
+    let same = named_place fs name in
+    omega (arith, low, same)
 
 -- the function of a name stands at the number of the name
 pub function_at : (fs : List Function) (name : List ℕ) → function_named name fs ≡ slice_get fs (number_in (map (λ f. f.name) fs) name)

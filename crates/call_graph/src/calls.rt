@@ -1,31 +1,31 @@
 //! The edges of the call graph.
 
-ghost use Rattle.std.specs.Prelude.{◌≡◌, ◌<◌, ◌++◌, ◌∷◌, ◌^◌, length, sum_by, OnOk, IfOk};
+ghost use Rattle.std.specs.Prelude.{◌≡◌, ◌<◌, ◌++◌, ◌∷◌, ◌^◌, length, map, sum_by, OnOk, IfOk};
 ghost use Rattle.gimple_ir.specs.Size.{size_of_block, size_of_function, size_of_program};
 ghost use Rattle.gimple_core.specs.Run.{call_of};
 ghost use Rattle.call_graph.specs.Calls.{call_edges, body_edges, block_edges, function_edges, edges_of};
 
-use crate::names::{names_of, number_of};
+use crate::names::number_of;
 use gimple_core::{Block, Checked, Edge, Edges, Function, OutOfMemory, Point, Stmt};
-use name_tables::Names;
+use name_tables::NamedFunctions;
 use std::alloc::Global as Heap;
 
 /// Puts the edge of a call behind the others.
 #[tactic(auto, using(crate::proofs::Naming::number_within))]
 fn push_call(
-    names: &Names<'_>,
+    callees: &NamedFunctions<'_>,
     statement: &Stmt,
     point: Point,
     edges: &mut Edges,
 ) -> Result<(), OutOfMemory>
-    requires { length names.now < 2 ^ 32 }
-    ensures { OnOk result (edges.new ≡ edges.old ++ call_edges names.now point (call_of statement.now)) }
+    requires { length callees.now < 2 ^ 32 }
+    ensures { OnOk result (edges.new ≡ edges.old ++ call_edges (map (λ f. f.name) callees.now) point (call_of statement.now)) }
 {
     match statement {
         Stmt::Call { callee, .. } => edges.push(Edge {
             caller: point.function,
             point,
-            callee: number_of(names, callee.as_slice()) as u32,
+            callee: number_of(callees, callee) as u32,
         }),
         _ => Ok(()),
     }
@@ -34,20 +34,20 @@ fn push_call(
 /// Puts the edges of a block's statements behind the others.
 #[tactic(auto, unfolding(crate::specs::Calls::body_edges))]
 fn push_body(
-    names: &Names<'_>,
+    callees: &NamedFunctions<'_>,
     body: &[Stmt],
     function: u32,
     block: u32,
     edges: &mut Edges,
 ) -> Result<(), OutOfMemory>
-    requires names { length names.now < 2 ^ 32 }
+    requires callees { length callees.now < 2 ^ 32 }
     requires few { length body.now < 2 ^ 32 }
-    ensures { OnOk result (edges.new ≡ edges.old ++ body_edges names.now function block 0 body.now) }
+    ensures { OnOk result (edges.new ≡ edges.old ++ body_edges (map (λ f. f.name) callees.now) function block 0 body.now) }
 {
     for (index, statement) in body.iter().enumerate() {
         let index = index as u32;
         push_call(
-            names,
+            callees,
             statement,
             Point {
                 function,
@@ -63,17 +63,23 @@ fn push_body(
 /// Puts the edges of a function's blocks behind the others.
 #[tactic(auto, using(crate::proofs::Sizes::many_blocks), unfolding(crate::specs::Calls::block_edges))]
 fn push_blocks(
-    names: &Names<'_>,
+    callees: &NamedFunctions<'_>,
     blocks: &[Block],
     function: u32,
     edges: &mut Edges,
 ) -> Result<(), OutOfMemory>
-    requires names { length names.now < 2 ^ 32 }
+    requires callees { length callees.now < 2 ^ 32 }
     requires size { sum_by size_of_block blocks.now < 2 ^ 32 }
-    ensures { OnOk result (edges.new ≡ edges.old ++ block_edges names.now function 0 blocks.now) }
+    ensures { OnOk result (edges.new ≡ edges.old ++ block_edges (map (λ f. f.name) callees.now) function 0 blocks.now) }
 {
     for (number, block) in blocks.iter().enumerate() {
-        push_body(names, block.body.as_slice(), function, number as u32, edges)?;
+        push_body(
+            callees,
+            block.body.as_slice(),
+            function,
+            number as u32,
+            edges,
+        )?;
     }
     Ok(())
 }
@@ -81,17 +87,17 @@ fn push_blocks(
 /// Puts the edges of functions behind the others.
 #[tactic(auto, unfolding(crate::specs::Calls::function_edges))]
 fn push_functions(
-    names: &Names<'_>,
+    callees: &NamedFunctions<'_>,
     functions: &[Function],
     edges: &mut Edges,
 ) -> Result<(), OutOfMemory>
-    requires names { length names.now < 2 ^ 32 }
+    requires callees { length callees.now < 2 ^ 32 }
     requires few { length functions.now < 2 ^ 32 }
     requires size { sum_by size_of_function functions.now < 2 ^ 32 }
-    ensures { OnOk result (edges.new ≡ edges.old ++ function_edges names.now 0 functions.now) }
+    ensures { OnOk result (edges.new ≡ edges.old ++ function_edges (map (λ f. f.name) callees.now) 0 functions.now) }
 {
     for (number, function) in functions.iter().enumerate() {
-        push_blocks(names, function.blocks.as_slice(), number as u32, edges)?;
+        push_blocks(callees, function.blocks.as_slice(), number as u32, edges)?;
     }
     Ok(())
 }
@@ -103,8 +109,8 @@ pub fn edges(alloc: Heap, program: &Checked) -> Result<Edges, OutOfMemory>
     ensures { IfOk result (λ edges. edges ≡ edges_of program.now.program) }
 {
     let functions = program.program().functions.as_slice();
-    let names = names_of(alloc, functions)?;
+    let callees = NamedFunctions::new(alloc, functions)?;
     let mut edges = Edges::new(alloc);
-    push_functions(&names, functions, &mut edges)?;
+    push_functions(&callees, functions, &mut edges)?;
     Ok(edges)
 }

@@ -1,33 +1,21 @@
 //! The numbers of functions by their names.
 
-ghost use Rattle.std.specs.Prelude.{◌≡◌, map, IfOk};
+ghost use Rattle.std.specs.Prelude.{◌≡◌, map};
 ghost use Rattle.gimple_core.specs.Names.{same_name};
 ghost use Rattle.gimple_core.specs.Run.{main_name};
 ghost use Rattle.call_graph.specs.Calls.{number_in};
 
-use gimple_core::{Function, OutOfMemory};
-use name_tables::Names;
-use std::alloc::Global as Heap;
+use gimple_core::{Function, Text};
+use name_tables::NamedFunctions;
 
 /// The number of the function of a name, or how many functions there are.
-pub fn number_of(names: &Names<'_>, name: &[u8]) -> usize
-    ensures { result ≡ number_in names.now name.now }
+pub fn number_of(functions: &NamedFunctions<'_>, name: &Text) -> usize
+    ensures { result ≡ number_in (map (λ f. f.name) functions.now) name.now }
 {
-    match names.place(name) {
+    match functions.place(name) {
         Some(number) => number,
-        None => names.len(),
+        None => functions.len(),
     }
-}
-
-/// The names of functions, each in the place of its function's number.
-pub fn names_of<'a>(alloc: Heap, functions: &'a [Function]) -> Result<Names<'a>, OutOfMemory>
-    ensures { IfOk result (λ names. names ≡ map (λ f. f.name) functions.now) }
-{
-    let mut names = Names::new(alloc);
-    for function in functions {
-        names.push(function.name.as_slice())?;
-    }
-    Ok(names)
 }
 
 /// The number of the function `main`, or how many functions there are.
