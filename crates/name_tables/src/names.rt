@@ -1,6 +1,6 @@
 //! Names in a row.
 
-ghost use Rattle.std.specs.Prelude.{◌≡◌, ◌++◌, ◌∷◌, [], OnOk, length, position, map};
+ghost use Rattle.std.specs.Prelude.{◌≡◌, ◌++◌, ◌∷◌, [], OnOk, position, map};
 ghost use Rattle.gimple_core.specs.Names.{same_name};
 
 use gimple_core::OutOfMemory;
@@ -66,13 +66,6 @@ impl<'a> Names<'a> {
             self.distinct = true;
         }
         Ok(())
-    }
-
-    /// How many names there are.
-    pub fn len(&self) -> usize
-        ensures { result ≡ length self.now }
-    {
-        self.names.as_slice().len()
     }
 
     /// The place of the first name that is this one; None exactly where no name is.
