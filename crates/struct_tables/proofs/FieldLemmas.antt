@@ -73,7 +73,7 @@ pub starts_done : (known : List KnownLayout) (size : ℕ) (fs : List Decl) (xs :
 starts_done known size [] xs l = append-nil xs
 starts_done known size (f ∷ fs) xs l = absurd (omega (arith, l))
 
-starts_ahead : (known : List KnownLayout) (fs : List Decl) (size i d : ℕ) → All (λ k. IsLayout k.layout) known → i < length (field_starts known size fs) → size ≤ get_or (field_starts known size fs) i d
+pub starts_ahead : (known : List KnownLayout) (fs : List Decl) (size i d : ℕ) → All (λ k. IsLayout k.layout) known → i < length (field_starts known size fs) → size ≤ get_or (field_starts known size fs) i d
 starts_ahead known [] size i d h l = absurd (omega (arith, l))
 starts_ahead known (f ∷ fs) size zero d h l = start_least known size f h
 starts_ahead known (f ∷ fs) size (suc i) d h l =
@@ -93,7 +93,7 @@ starts_ascend known (f ∷ fs) size h (suc i) zero d l m = absurd (omega (arith,
 starts_ascend known (f ∷ fs) size h (suc i) (suc j) d l m = starts_ascend known fs (field_end known size f) h i j d (omega (arith, l)) (omega (arith, m))
 
 -- fields that all begin behind an offset
-none_at : (known : List KnownLayout) (fs : List Decl) (size o : ℕ) (scalar : Scalar) → All (λ k. IsLayout k.layout) known → ((d : ℕ) → 0 < length (field_starts known size fs) → o < get_or (field_starts known size fs) 0 d) →
+pub none_at : (known : List KnownLayout) (fs : List Decl) (size o : ℕ) (scalar : Scalar) → All (λ k. IsLayout k.layout) known → ((d : ℕ) → 0 < length (field_starts known size fs) → o < get_or (field_starts known size fs) 0 d) →
     has_slot (slots_after known size fs) (pos o) scalar ≡ false
 none_at known [] size o scalar h first = refl
 none_at known (f ∷ fs) size o scalar h first = in_gap known f fs size o scalar h (first 0 (omega arith))

@@ -4,3 +4,4 @@ pub mod FieldLemmas
 pub mod NumberedLemmas
 pub mod StartLemmas
 pub mod KeptLemmas
+pub mod SlotLemmas

@@ -27,7 +27,7 @@ has_outside size o (s ∷ slots) scalar w l =
     by true e m = let h = All-head (λ s. s.offset < size) s slots w in let k = eqb-true s.offset o e in let z : ⊥ = omega (arith, h, k, l) in absurd z
     by false e m = m
 
-same_place : (by a o : ℕ) → by ≤ o → (by + a == o) ≡ (a == o - by)
+pub same_place : (by a o : ℕ) → by ≤ o → (by + a == o) ≡ (a == o - by)
 same_place by a o l = grind arith
 
 other_place : (by a o : ℕ) → o < by → (by + a == o) ≡ false

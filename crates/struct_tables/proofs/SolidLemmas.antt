@@ -1,5 +1,5 @@
 -- Layouts of structs that passed their checks.
-use Rattle.std.proofs.Common.{◌≡◌, ℕ, ◌+◌, ◌*◌, ◌<◌, ◌≤◌, Bool, true, false, if◌then◌else◌, List, [], ◌∷◌, ◌++◌, length, max, find, Option, Some, refl, ◌∙◌, ap, subst, arith, Bor}
+use Rattle.std.proofs.Common.{◌≡◌, ℕ, ◌+◌, ◌*◌, ◌<◌, ◌≤◌, ◌^◌, Bool, true, false, if◌then◌else◌, List, [], ◌∷◌, ◌++◌, length, max, find, Option, Some, refl, ◌∙◌, ap, subst, arith, Bor}
 use Rattle.std.specs.List.{All}
 use Rattle.std.proofs.lemmas.List.{length-append}
 use Rattle.std.proofs.lemmas.List.Elements.{All-nil, All-cons, All-append, All-weaker, All-head, All-tail, All-take}
@@ -19,7 +19,7 @@ use Rattle.struct_tables.specs.declared.structs.Extent.{Extent}
 use Rattle.struct_tables.specs.declared.structs.Kept.{Kept}
 use Rattle.struct_tables.proofs.SizeLemmas.{moved_length, repeated_length}
 
-abbrev Solid : KnownLayout → Type 0
+abbrev pub Solid : KnownLayout → Type 0
 Solid k = IsSolid k.layout
 
 pub lawful_all : (known : List KnownLayout) → All Solid known → All (λ k. IsLayout k.layout) known
@@ -53,7 +53,7 @@ shape_solid known (Named name) h = found_solid (λ k. same_name k.name name) kno
 
 -- ---- no more slots than bytes
 
-decl_dense : (known : List KnownLayout) (d : Decl) → All Solid known → length (decl_layout known d).slots ≤ (decl_layout known d).size
+pub decl_dense : (known : List KnownLayout) (d : Decl) → All Solid known → length (decl_layout known d).slots ≤ (decl_layout known d).size
 decl_dense known d h =
     let s : length (shape_layout known d.shape).slots ≤ (shape_layout known d.shape).size = (shape_solid known d.shape h).dense in
     let e = repeated_length (count_of d.length) (shape_layout known d.shape).size (shape_layout known d.shape).slots in
@@ -110,3 +110,14 @@ extent_is known (f ∷ fs) l =
 pub extent_done : (known : List KnownLayout) (e : Extent) (n : ℕ) (fs : List Decl) → length fs < 1 → n ≡ round_up e.size e.align → (record e { size = n }) ≡ extent_after known e fs
 extent_done known e n [] h r = λ i. record e { size = r i }
 extent_done known e n (f ∷ fs) h r = let z : ⊥ = omega (arith, h) in absurd z
+
+-- ---- how many slots a variable has at most
+
+pub few_slots : (known : List KnownLayout) (d : Decl) → All Solid known → count_of d.length < 2 ^ 64 → length (decl_layout known d).slots < 2 ^ 127
+few_slots known d h k =
+    let s : length (shape_layout known d.shape).slots ≤ (shape_layout known d.shape).size = (shape_solid known d.shape h).dense in
+    let m : (shape_layout known d.shape).size ≤ 16777216 = (shape_solid known d.shape h).small in
+    let e = repeated_length (count_of d.length) (shape_layout known d.shape).size (shape_layout known d.shape).slots in
+    let n : length (shape_layout known d.shape).slots ≤ 16777216 = omega (arith, s, m) in
+    let p : count_of d.length * length (shape_layout known d.shape).slots ≤ count_of d.length * 16777216 = grind (arith, n) in
+    omega (arith, e, p, k)

@@ -1,5 +1,5 @@
 -- Sizes of structs and variables, what is kept of structs, and where a place in a variable leads.
-use Rattle.std.specs.Prelude.{◌≡◌, ◌≤◌, ◌<◌, ℕ, ◌+◌, ◌-◌, true, false, max, List, [], ◌∷◌, ◌++◌, map, length, take, find, Option, Some, None, slice_get, slice_index_or, pos}
+use Rattle.std.specs.Prelude.{◌≡◌, ◌≤◌, ◌<◌, ℕ, ◌+◌, ◌-◌, false, max, List, [], ◌∷◌, ◌++◌, map, length, take, find, Option, Some, None, slice_get, slice_index_or, pos}
 use Rattle.std.specs.Option.{option_map}
 use Rattle.std.specs.Borrow.{Bor}
 use Rattle.gimple_ir.specs.declared.scalar.Scalar.{Scalar}

@@ -78,7 +78,7 @@ pub(crate) enum Inside<'a> {
 /// alignment, which is the largest of its fields; its size is 0 and its alignment 1 where no struct before has the name that a field gives.
 #[derive(Drop)]
 pub struct Structs<'a> {
-    map: IndexMap<&'a [u8], Kept<'a>>,
+    pub(crate) map: IndexMap<&'a [u8], Kept<'a>>,
 }
 
 impl<'a> Model for Structs<'a> {
@@ -111,7 +111,7 @@ impl<'a> Structs<'a> {
     }
 
     /// The struct of this name, where it is one of the first.
-    fn found(&self, bound: usize, name: &'a Text) -> Option<&Kept<'a>>
+    pub(crate) fn found(&self, bound: usize, name: &'a Text) -> Option<&Kept<'a>>
         ensures { IsFirst self.now bound name.now (option_copied result) }
     {
         match self.map.get(&name.as_slice()) {
@@ -150,7 +150,7 @@ impl<'a> Structs<'a> {
     }
 
     /// The same, with the bounds that each extent keeps.
-    fn extent_before(&self, bound: usize, shape: &'a Shape) -> Extent
+    pub(crate) fn extent_before(&self, bound: usize, shape: &'a Shape) -> Extent
         ensures same { result ≡ extent_of (shape_layout (first_layouts bound self.now) shape.now) }
         ensures least { 1 ≤ result.align }
         ensures most { result.align ≤ 8 }
@@ -405,14 +405,14 @@ fn field_from<'a>(number: usize, fields: &'a [Decl], starts: &[u64], place: u64)
     }
 }
 
-fn same_scalar(left: Scalar, right: Scalar) -> bool
+pub(crate) fn same_scalar(left: Scalar, right: Scalar) -> bool
     ensures { result ≡ same_scalar left right }
 {
     left == right
 }
 
 /// The length of an array, and 1 for what is none.
-fn count_of(length: Option<u64>) -> u64
+pub(crate) fn count_of(length: Option<u64>) -> u64
     ensures { result ≡ count_of length }
 {
     match length {
@@ -422,7 +422,7 @@ fn count_of(length: Option<u64>) -> u64
 }
 
 /// Where some items of a size end.
-fn end_of(start: u64, count: u64, size: u64) -> u128
+pub(crate) fn end_of(start: u64, count: u64, size: u64) -> u128
     ensures { result ≡ start + count * size }
 {
     u128::from(start) + u128::from(count) * u128::from(size)
