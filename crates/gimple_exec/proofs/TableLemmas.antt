@@ -2,13 +2,12 @@
 use Rattle.std.proofs.Common.{◌≡◌, ◌∙◌, ap, refl, ℕ, ◌<◌, ◌==◌, List, length, get_or, Option}
 use Rattle.std.specs.List.{position}
 use Rattle.std.proofs.lemmas.List.{get_or-map}
-use Rattle.gimple_core.specs.Names.{same_name}
 use Rattle.gimple_ir.specs.declared.block.Block.{Block}
 use Rattle.gimple_ir.specs.declared.program.Function.{Function}
 use Rattle.gimple_ir.specs.declared.program.Program.{Program}
 use Rattle.gimple_exec.specs.Machines.{function_of, no_function}
 use Rattle.gimple_exec.specs.declared.function_tables.FunctionTables.{FunctionTables}
-use Rattle.gimple_exec.specs.Tables.{names_of, labels_of, tables_of, tables_in}
+use Rattle.gimple_exec.specs.Tables.{labels_of, tables_of, tables_in}
 use Rattle.gimple_exec.specs.Places.{IsPlace}
 use Rattle.name_tables.proofs.Naming.{position_map}
 use Rattle.gimple_exec.proofs.Naming.{place_by}
@@ -24,9 +23,3 @@ label_in p rows k label row r e within read found =
     let here : row.labels ≡ labels_of (function_of p k).blocks = ap (λ (t : FunctionTables). t.labels) (tables_at p rows k row e within read) in
     place_by (λ (b : Block). b.label == label) (function_of p k).blocks r
     (found ∙ ap (λ (ls : List ℕ). position (λ l. l == label) ls) here ∙ position_map (λ (b : Block). b.label) (λ l. l == label) (λ b. b.label == label) (λ b. refl) (function_of p k).blocks)
-
--- the place of a name among functions
-pub name_in : (p : Program) (names : List (List ℕ)) (name bytes : List ℕ) (r : Option ℕ) → names ≡ names_of p.functions → bytes ≡ name → r ≡ position (λ n. same_name n bytes) names → IsPlace (λ f. same_name f.name name) p.functions r
-name_in p names name bytes r e same found =
-    place_by (λ (f : Function). same_name f.name name) p.functions r
-    (found ∙ ap (λ (b : List ℕ). position (λ n. same_name n b) names) same ∙ ap (λ (ns : List (List ℕ)). position (λ n. same_name n name) ns) e ∙ position_map (λ (f : Function). f.name) (λ n. same_name n name) (λ f. same_name f.name name) (λ f. refl) p.functions)

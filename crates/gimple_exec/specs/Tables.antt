@@ -14,9 +14,6 @@ use Rattle.gimple_core.specs.Run.{with_object}
 use Rattle.gimple_exec.specs.declared.function_tables.FunctionTables.{FunctionTables}
 use Rattle.gimple_exec.specs.Frames.{declared_by}
 
-abbrev pub names_of : List Function → List (List ℕ)
-names_of fs = map (λ f. f.name) fs
-
 abbrev pub labels_of : List Block → List ℕ
 labels_of bs = map (λ b. b.label) bs
 
@@ -36,8 +33,8 @@ abbrev pub tables_in : List StructDef → List Function → List FunctionTables
 tables_in structs fs = map (tables_of structs) fs
 
 -- the tables are those of the program
-pub record IsIndexed (p : Program) (names : List (List ℕ)) (variables : List Global) (rows : List FunctionTables) : Type 0 where
-  pub functions : names ≡ names_of p.functions
+pub record IsIndexed (p : Program) (callees : List Function) (variables : List Global) (rows : List FunctionTables) : Type 0 where
+  pub functions : callees ≡ p.functions
   pub globals : variables ≡ p.globals
   pub tables : rows ≡ tables_in p.structs p.functions
 

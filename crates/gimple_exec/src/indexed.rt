@@ -5,12 +5,12 @@ ghost use Rattle.gimple_core.specs.Names.{same_name};
 ghost use Rattle.gimple_exec.specs.Places.{IsPlace};
 ghost use Rattle.gimple_exec.specs.Frames.{declared_by};
 ghost use Rattle.gimple_exec.specs.Machines.{function_of, block_of, IsLimited};
-ghost use Rattle.gimple_exec.specs.Tables.{names_of, layouts_of, tables_in};
+ghost use Rattle.gimple_exec.specs.Tables.{layouts_of, tables_in};
 
 use crate::function_tables::FunctionTables;
 use crate::scope::Scope;
 use gimple_core::{Block, Function, Layout, OutOfMemory, Program, Text};
-use name_tables::{NamedGlobals, Names, RegisterTable};
+use name_tables::{NamedFunctions, NamedGlobals, RegisterTable};
 use std::alloc::Global as Heap;
 use std::marker::Model;
 
@@ -18,7 +18,7 @@ use std::marker::Model;
 #[derive(Drop)]
 pub struct Indexed<'a> {
     program: &'a Program,
-    functions: Names<'a>,
+    functions: NamedFunctions<'a>,
     globals: NamedGlobals<'a>,
     tables: Vec<FunctionTables<'a>>,
 }
@@ -32,16 +32,6 @@ impl<'a> Model for Indexed<'a> {
     ghost view = { λ x. x.program.now };
 
     ghost invariant = { λ x. IsIndexed x.program.now x.functions x.globals x.tables.items };
-}
-
-fn function_names<'a>(alloc: Heap, functions: &'a [Function]) -> Result<Names<'a>, OutOfMemory>
-    ensures { IfOk result (λ names. names ≡ names_of functions.now) }
-{
-    let mut names = Names::new(alloc);
-    for function in functions {
-        names.push(function.name.as_slice())?;
-    }
-    Ok(names)
 }
 
 fn program_tables<'a>(
@@ -65,7 +55,7 @@ impl<'a> Indexed<'a> {
         requires { IsLimited program.now }
         ensures { IfOk result (λ x. x ≡ program.now) }
     {
-        let functions = function_names(alloc, program.functions.as_slice())?;
+        let functions = NamedFunctions::new(alloc, program.functions.as_slice())?;
         let globals = NamedGlobals::new(alloc, program.globals.as_slice())?;
         let tables = program_tables(alloc, program)?;
         Ok(Indexed {
@@ -119,7 +109,7 @@ impl<'a> Indexed<'a> {
     pub fn named_place(&self, name: &Text) -> Option<usize>
         ensures { IsPlace (λ f. same_name f.name name.now) self.now.functions result }
     {
-        self.functions.place(name.as_slice())
+        self.functions.place(name)
     }
 
     /// The first block of a label in a function.
