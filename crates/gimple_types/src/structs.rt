@@ -4,7 +4,6 @@ ghost use Rattle.std.specs.Prelude.{◌≡◌, ◌<◌, ◌^◌, [], ◌∷◌, 
 ghost use Rattle.gimple_core.specs.Env.{has, structs_by_name};
 ghost use Rattle.gimple_core.specs.Declarations as spec;
 ghost use Rattle.gimple_core.specs.Layout.{count_of};
-ghost use Rattle.gimple_ir.specs.Counts.{AreNarrow};
 ghost use Rattle.gimple_types.specs.Tables.{AreAmong};
 ghost use Rattle.gimple_types.specs.Verdicts.{Becomes, Judges};
 
@@ -90,15 +89,14 @@ fn fields<'a>(
 }
 
 /// Adds a struct, after its checks.
-#[tactic(auto, unfolding(gimple_core::specs::Declarations::one_struct), using(crate::proofs::StructLemmas::fields_small))]
+#[tactic(auto, unfolding(gimple_core::specs::Declarations::one_struct))]
 fn one_struct<'a>(
     alloc: Heap,
     earlier: &mut Structs<'a>,
     all: &'a [StructDef],
     definition: &'a StructDef,
 ) -> Result<(), Fail>
-    requires among { AreAmong earlier.old all.now }
-    requires few { length definition.now.fields < 2 ^ 32 }
+    requires { AreAmong earlier.old all.now }
     ensures verdict { Becomes (spec.one_struct all.now earlier.old definition.now) result tt }
     ensures more { OnOk result (earlier.new ≡ earlier.old ++ definition.now ∷ []) }
 {
@@ -112,8 +110,7 @@ fn one_struct<'a>(
 /// The checks of each struct in order, and the structs.
 #[tactic(auto, unfolding(gimple_core::specs::Declarations::structs), using(crate::proofs::StructLemmas::among_more))]
 pub(crate) fn all_structs<'a>(alloc: Heap, items: &'a [StructDef]) -> Result<Structs<'a>, Refusal>
-    requires few { length items.now < 2 ^ 32 }
-    requires narrow { AreNarrow items.now }
+    requires { length items.now < 2 ^ 32 }
     ensures verdict { Judges (spec.structs items.now 0 [] items.now) result tt }
     ensures all { IfOk result (λ s. s ≡ items.now) }
 {

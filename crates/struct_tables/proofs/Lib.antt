@@ -5,3 +5,4 @@ pub mod NumberedLemmas
 pub mod StartLemmas
 pub mod KeptLemmas
 pub mod SlotLemmas
+pub mod AcceptedStructs

@@ -1,5 +1,5 @@
 -- Layouts of structs that passed their checks.
-use Rattle.std.proofs.Common.{◌≡◌, ℕ, ◌+◌, ◌*◌, ◌<◌, ◌≤◌, ◌^◌, Bool, true, false, if◌then◌else◌, List, [], ◌∷◌, ◌++◌, length, max, find, Option, Some, refl, ◌∙◌, ap, subst, arith, Bor}
+use Rattle.std.proofs.Common.{◌≡◌, ℕ, ◌+◌, ◌*◌, ◌<◌, ◌≤◌, ◌^◌, Bool, true, false, if◌then◌else◌, List, [], ◌∷◌, ◌++◌, length, max, find, Option, Some, refl, ◌∙◌, ap, subst, arith, Bor, get_or}
 use Rattle.std.specs.List.{All}
 use Rattle.std.proofs.lemmas.List.{length-append}
 use Rattle.std.proofs.lemmas.List.Elements.{All-nil, All-cons, All-append, All-weaker, All-head, All-tail, All-take}
@@ -14,7 +14,7 @@ use Rattle.gimple_core.specs.declared.layout.KnownLayout.{KnownLayout}
 use Rattle.gimple_core.specs.Layout.{empty_layout, round_up, moved, known_layout, shape_layout, count_of, decl_layout, with_field, with_fields, struct_layouts, IsLayout}
 use Rattle.gimple_core.specs.Names.{same_name}
 use Rattle.gimple_core.proofs.LayoutLemmas.{entry, round_up-least, empty_is, plain_is, decl_is, field_is, fields_is}
-use Rattle.struct_tables.specs.Sizes.{extent_of, extent_after, field_end, definitions, first_layouts, IsSolid, IsKept, AreKept}
+use Rattle.struct_tables.specs.Sizes.{extent_of, extent_after, extent_rounded, extent_with, field_start, field_end, definitions, first_layouts, IsSolid, IsKept, AreKept}
 use Rattle.struct_tables.specs.declared.structs.Extent.{Extent}
 use Rattle.struct_tables.specs.declared.structs.Kept.{Kept}
 use Rattle.struct_tables.proofs.SizeLemmas.{moved_length, repeated_length}
@@ -107,9 +107,25 @@ extent_is known (f ∷ fs) l =
     more_slots e = ap with_slots e
 
 -- behind the last field
-pub extent_done : (known : List KnownLayout) (e : Extent) (n : ℕ) (fs : List Decl) → length fs < 1 → n ≡ round_up e.size e.align → (record e { size = n }) ≡ extent_after known e fs
-extent_done known e n [] h r = λ i. record e { size = r i }
-extent_done known e n (f ∷ fs) h r = let z : ⊥ = omega (arith, h) in absurd z
+pub extent_done : (known : List KnownLayout) (e : Extent) (fs : List Decl) → length fs < 1 → extent_rounded e ≡ extent_after known e fs
+extent_done known e [] h = refl
+extent_done known e (f ∷ fs) h = let z : ⊥ = omega (arith, h) in absurd z
+
+-- sizes only grow
+pub extent_grows : (known : List KnownLayout) (e : Extent) (fs : List Decl) → All (λ k. IsLayout k.layout) known → 1 ≤ e.align → e.size ≤ (extent_after known e fs).size
+extent_grows known e [] h l = round_up-least e.size e.align l
+extent_grows known e (f ∷ fs) h l =
+    let up : e.size ≤ field_start known e.size f = round_up-least e.size (decl_layout known f).align (decl_is known f h).least in
+    let more = extent_grows known (extent_with known e f) fs h (omega (arith, l)) in
+    omega (arith, up, more)
+
+-- a field that ends behind a number, and the struct with it
+pub extent_above : (known : List KnownLayout) (e : Extent) (fs : List Decl) (f : Decl) (n : ℕ) → All (λ k. IsLayout k.layout) known → 1 ≤ e.align → 1 ≤ length fs → f ≡ get_or fs 0 f → n < (extent_with known e f).size → n < (extent_after known e fs).size
+extent_above known e [] f n h l some is above = absurd (omega (arith, some))
+extent_above known e (x ∷ fs) f n h l some is above =
+    let large : n < (extent_with known e x).size = subst (λ y. n < (extent_with known e y).size) is above in
+    let more = extent_grows known (extent_with known e x) fs h (omega (arith, l)) in
+    omega (arith, large, more)
 
 -- ---- how many slots a variable has at most
 

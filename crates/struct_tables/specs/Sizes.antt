@@ -34,9 +34,13 @@ field_end known size f = field_start known size f + (decl_layout known f).size
 abbrev pub extent_with : List KnownLayout → Extent → Decl → Extent
 extent_with known e f = record { size = field_end known e.size f; align = max e.align (decl_layout known f).align; slots = e.slots + length (decl_layout known f).slots }
 
+-- up to the end of a struct whose fields end here
+abbrev pub extent_rounded : Extent → Extent
+extent_rounded e = record e { size = round_up e.size e.align }
+
 -- with these fields, up to the end of the struct
 abbrev pub extent_after : List KnownLayout → Extent → List Decl → Extent
-extent_after known e [] = record e { size = round_up e.size e.align }
+extent_after known e [] = extent_rounded e
 extent_after known e (f ∷ fs) = extent_after known (extent_with known e f) fs
 
 -- the slots of fields that stand behind this many bytes
@@ -54,10 +58,10 @@ abbrev pub slots_before : List KnownLayout → ℕ → List Decl → List ℕ
 slots_before known n [] = []
 slots_before known n (f ∷ fs) = n ∷ slots_before known (n + length (decl_layout known f).slots) fs
 
--- fields whose sizes are at most 2^24
-abbrev pub AreSmall : List KnownLayout → List Decl → Type 0
-AreSmall known [] = Unit {0}
-AreSmall known (f ∷ fs) = ((decl_layout known f).size ≤ 16777216) × AreSmall known fs
+-- an extent, and none where its size is above 2^24
+abbrev pub IsBounded : Extent → Option Extent → Type 0
+IsBounded whole None = 16777216 < whole.size
+IsBounded whole (Some e) = (e ≡ whole) × (whole.size ≤ 16777216)
 
 -- ---- structs
 

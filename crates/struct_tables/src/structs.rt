@@ -1,6 +1,6 @@
 //! Structs, and how their variables lie in memory. Slots are not listed: a place in a variable is followed from field to field.
 
-ghost use Rattle.std.specs.Prelude.{◌≡◌, false, ◌+◌, ◌*◌, ◌<◌, ◌≤◌, ◌^◌, [], ◌∷◌, ◌++◌, length, nat_le, pos, OnOk, OnErr, IfOk, if◌then◌else◌};
+ghost use Rattle.std.specs.Prelude.{◌≡◌, false, ◌+◌, ◌*◌, ◌<◌, ◌≤◌, ◌^◌, [], ◌∷◌, ◌++◌, length, nat_le, pos, OnOk, OnErr, IfOk, IfSome, if◌then◌else◌};
 ghost use Rattle.std.specs.List.Sorted.{IsNonDecreasing};
 ghost use Rattle.std.specs.Option.{option_copied};
 ghost use Rattle.gimple_core.specs.Layout.{empty_layout, with_fields, decl_layout, shape_layout, struct_layouts, layout_of, count_of, round_up};
@@ -8,7 +8,8 @@ ghost use Rattle.gimple_core.specs.Env.{has, structs_by_name};
 ghost use Rattle.gimple_core.specs.Memory.{same_scalar};
 ghost use Rattle.gimple_core.specs.Statements.{has_slot};
 ghost use Rattle.gimple_core.specs.Declarations.{is_size, struct_size};
-ghost use Rattle.struct_tables.specs.Sizes.{extent_of, extent_with, field_start, field_starts, first_layouts, scalar_at, slots_before, AreSmall, IsFieldFrom, IsFirst, LeadsTo, NumberLeadsTo};
+ghost use Rattle.struct_tables.specs.Sizes.{extent_of, extent_rounded, extent_with, field_start, field_starts, first_layouts, scalar_at, slots_before, IsBounded, IsFieldFrom, IsFirst, LeadsTo, NumberLeadsTo};
+ghost use Rattle.struct_tables.specs.Tables.{HaveTable};
 
 use gimple_core::{Decl, OutOfMemory, Scalar, Shape, StructDef, Text, bits};
 use indexmap::IndexMap;
@@ -103,18 +104,32 @@ impl<'a> Structs<'a> {
         }
     }
 
+    /// These structs, which are to have a table, as those of an accepted program do. Err is want of memory.
+    pub fn of(alloc: Heap, structs: &'a [StructDef]) -> Result<Structs<'a>, OutOfMemory>
+        requires { HaveTable structs.now }
+        ensures { IfOk result (λ s. s ≡ structs.now) }
+    {
+        let mut table = Structs::new(alloc);
+        let mut rest = structs;
+        while let [next, after @ ..] = rest {
+            table.push(next)?;
+            rest = after;
+        }
+        Ok(table)
+    }
+
     /// Whether a struct has this name.
-    pub fn has(&self, name: &'a [u8]) -> bool
+    pub fn has(&self, name: &[u8]) -> bool
         ensures { result ≡ has name.now (structs_by_name self.now) }
     {
-        self.map.contains_key(&name)
+        self.map.contains_key(name)
     }
 
     /// The struct of this name, where it is one of the first.
-    pub(crate) fn found(&self, bound: usize, name: &'a Text) -> Option<&Kept<'a>>
+    pub(crate) fn found(&self, bound: usize, name: &Text) -> Option<&Kept<'a>>
         ensures { IsFirst self.now bound name.now (option_copied result) }
     {
-        match self.map.get(&name.as_slice()) {
+        match self.map.get(name.as_slice()) {
             Some(kept) => {
                 if kept.number < bound {
                     return Some(kept);
@@ -126,7 +141,7 @@ impl<'a> Structs<'a> {
     }
 
     /// The extent of an element of this shape, where only the first structs are there.
-    fn element(&self, bound: usize, shape: &'a Shape) -> Extent
+    fn element(&self, bound: usize, shape: &Shape) -> Extent
         ensures { result ≡ extent_of (shape_layout (first_layouts bound self.now) shape.now) }
     {
         match shape {
@@ -150,7 +165,7 @@ impl<'a> Structs<'a> {
     }
 
     /// The same, with the bounds that each extent keeps.
-    pub(crate) fn extent_before(&self, bound: usize, shape: &'a Shape) -> Extent
+    pub(crate) fn extent_before(&self, bound: usize, shape: &Shape) -> Extent
         ensures same { result ≡ extent_of (shape_layout (first_layouts bound self.now) shape.now) }
         ensures least { 1 ≤ result.align }
         ensures most { result.align ≤ 8 }
@@ -162,7 +177,7 @@ impl<'a> Structs<'a> {
     }
 
     /// The extent of a value of this shape; that of a struct that is not there is 0 bytes, aligned to 1, without slots.
-    pub fn extent(&self, shape: &'a Shape) -> Extent
+    pub fn extent(&self, shape: &Shape) -> Extent
         ensures same { result ≡ extent_of (shape_layout (struct_layouts [] self.now) shape.now) }
         ensures least { 1 ≤ result.align }
         ensures most { result.align ≤ 8 }
@@ -174,7 +189,7 @@ impl<'a> Structs<'a> {
 
     /// Whether a variable has at least so many slots.
     #[tactic(auto, unfolding(gimple_core::specs::Layout::layout_of), using(crate::proofs::SizeLemmas::repeated_length))]
-    pub fn has_slots(&self, decl: &'a Decl, least: usize) -> bool
+    pub fn has_slots(&self, decl: &Decl, least: usize) -> bool
         ensures { result ≡ nat_le least (length (layout_of self.now decl.now).slots) }
     {
         let slots = u128::from(count_of(decl.length)) * u128::from(self.extent(&decl.shape).slots);
@@ -183,7 +198,7 @@ impl<'a> Structs<'a> {
 
     /// Whether a variable has a slot of this offset and scalar.
     #[tactic(auto, using(crate::proofs::SizeLemmas::has_negative))]
-    pub fn has_slot(&self, decl: &'a Decl, offset: i128, scalar: Scalar) -> bool
+    pub fn has_slot(&self, decl: &Decl, offset: i128, scalar: Scalar) -> bool
         ensures { result ≡ has_slot (layout_of self.now decl.now).slots offset scalar }
     {
         if offset < 0 {
@@ -193,7 +208,7 @@ impl<'a> Structs<'a> {
     }
 
     /// The same of an offset that is not negative.
-    fn has_slot_at(&self, decl: &'a Decl, offset: u128, scalar: Scalar) -> bool
+    fn has_slot_at(&self, decl: &Decl, offset: u128, scalar: Scalar) -> bool
         ensures { result ≡ has_slot (layout_of self.now decl.now).slots (pos offset) scalar }
     {
         let mut bound = self.map.len();
@@ -217,7 +232,7 @@ impl<'a> Structs<'a> {
     }
 
     /// What stands at an offset in a variable behind the first structs.
-    fn inside(&self, bound: usize, decl: &'a Decl, offset: u128) -> Inside<'a>
+    fn inside(&self, bound: usize, decl: &Decl, offset: u128) -> Inside<'a>
         ensures { LeadsTo self.now (decl_layout (first_layouts bound self.now) decl.now).slots offset bound result }
     {
         let _ = &self.map;
@@ -245,7 +260,7 @@ impl<'a> Structs<'a> {
     }
 
     /// The scalar of a variable's slot of this number, counted from 0; None exactly past the last slot.
-    pub fn slot_scalar(&self, decl: &'a Decl, index: usize) -> Option<Scalar>
+    pub fn slot_scalar(&self, decl: &Decl, index: usize) -> Option<Scalar>
         ensures { result ≡ scalar_at (layout_of self.now decl.now).slots index }
     {
         let mut bound = self.map.len();
@@ -269,7 +284,7 @@ impl<'a> Structs<'a> {
     }
 
     /// Where the slot of a number lies in a variable behind the first structs.
-    fn numbered(&self, bound: usize, decl: &'a Decl, index: u64) -> Inside<'a>
+    fn numbered(&self, bound: usize, decl: &Decl, index: u64) -> Inside<'a>
         ensures { NumberLeadsTo self.now (decl_layout (first_layouts bound self.now) decl.now).slots index bound result }
     {
         let slots = self.extent_before(bound, &decl.shape).slots;
@@ -290,43 +305,48 @@ impl<'a> Structs<'a> {
         }
     }
 
-    /// An extent with one more field, whose start is added to those of the fields before it.
+    /// An extent with one more field, whose start is added to those of the fields before it; None where the field ends behind 2^24 bytes.
     fn with_field(
         &self,
         starts: &mut Starts,
         whole: Extent,
         field: &'a Decl,
-    ) -> Result<Extent, OutOfMemory>
-        requires size { whole.size < 2 ^ 62 }
+    ) -> Result<Option<Extent>, OutOfMemory>
+        requires size { whole.size ≤ 16777216 }
         requires dense { whole.slots ≤ whole.size }
-        requires small { (decl_layout (struct_layouts [] self.now) field.now).size ≤ 16777216 }
-        ensures same { IfOk result (λ e. e ≡ extent_with (struct_layouts [] self.now) whole field.now) }
-        ensures near { IfOk result (λ e. e.size ≤ whole.size + 16777224) }
-        ensures dense { IfOk result (λ e. e.slots ≤ e.size) }
-        ensures least { IfOk result (λ e. whole.align ≤ e.align) }
-        ensures most { IfOk result (λ e. whole.align ≤ 8 → e.align ≤ 8) }
-        ensures offsets { OnOk result (starts.new.offsets.items ≡ starts.old.offsets.items ++ field_start (struct_layouts [] self.now) whole.size field.now ∷ []) }
-        ensures slots { OnOk result (starts.new.slots.items ≡ starts.old.slots.items ++ whole.slots ∷ []) }
+        ensures extent { IfOk result (IsBounded (extent_with (struct_layouts [] self.now) whole field.now)) }
+        ensures dense { IfOk result (λ o. IfSome o (λ e. e.slots ≤ e.size)) }
+        ensures least { IfOk result (λ o. IfSome o (λ e. whole.align ≤ e.align)) }
+        ensures most { IfOk result (λ o. IfSome o (λ e. whole.align ≤ 8 → e.align ≤ 8)) }
+        ensures offsets { IfOk result (λ o. IfSome o (λ e. starts.new.offsets.items ≡ starts.old.offsets.items ++ field_start (struct_layouts [] self.now) whole.size field.now ∷ [])) }
+        ensures slots { IfOk result (λ o. IfSome o (λ e. starts.new.slots.items ≡ starts.old.slots.items ++ whole.slots ∷ [])) }
     {
         let one = self.extent(&field.shape);
         let count = count_of(field.length);
         let offset = next_multiple(whole.size, one.align);
+        let size = end_of(offset, count, one.size);
+        if size > 16777216 {
+            return Ok(None);
+        }
         starts.push(offset, whole.slots)?;
-        Ok(Extent {
-            size: offset + count * one.size,
+        Ok(Some(Extent {
+            size: size as u64,
             align: whole.align.max(one.align),
             slots: whole.slots + count * one.slots,
-        })
+        }))
     }
 
-    /// The extent of a struct of these fields behind these structs, and where each field begins.
-    fn of_fields(&self, starts: &mut Starts, fields: &'a [Decl]) -> Result<Extent, OutOfMemory>
-        requires few { length fields.now < 2 ^ 32 }
-        requires small { AreSmall (struct_layouts [] self.now) fields.now }
-        ensures extent { IfOk result (λ e. e ≡ extent_of (with_fields (struct_layouts [] self.now) empty_layout fields.now)) }
-        ensures offsets { OnOk result (starts.new.offsets.items ≡ starts.old.offsets.items ++ field_starts (struct_layouts [] self.now) 0 fields.now) }
-        ensures slots { OnOk result (starts.new.slots.items ≡ starts.old.slots.items ++ slots_before (struct_layouts [] self.now) 0 fields.now) }
+    /// The extent of a struct of these fields behind these structs, and where each field begins; None where it is larger than 2^24 bytes.
+    fn of_fields(
+        &self,
+        starts: &mut Starts,
+        fields: &'a [Decl],
+    ) -> Result<Option<Extent>, OutOfMemory>
+        ensures extent { IfOk result (IsBounded (extent_of (with_fields (struct_layouts [] self.now) empty_layout fields.now))) }
+        ensures offsets { IfOk result (λ o. IfSome o (λ e. starts.new.offsets.items ≡ starts.old.offsets.items ++ field_starts (struct_layouts [] self.now) 0 fields.now)) }
+        ensures slots { IfOk result (λ o. IfSome o (λ e. starts.new.slots.items ≡ starts.old.slots.items ++ slots_before (struct_layouts [] self.now) 0 fields.now)) }
     {
+        let _ = &self.map;
         let mut whole = Extent {
             size: 0,
             align: 1,
@@ -334,32 +354,30 @@ impl<'a> Structs<'a> {
         };
         let mut rest = fields;
         while let [next, after @ ..] = rest {
-            whole = self.with_field(starts, whole, next)?;
+            match self.with_field(starts, whole, next)? {
+                Some(more) => whole = more,
+                None => return Ok(None),
+            }
             rest = after;
         }
-        Ok(Extent {
-            size: next_multiple(whole.size, whole.align),
-            align: whole.align,
-            slots: whole.slots,
-        })
+        Ok(rounded(whole))
     }
 
     /// Adds a struct of a new name behind the others, unless it is larger than 2^24 bytes. Ok says whether it was added. Err is want of memory, and the structs are what they were.
     pub fn push(&mut self, definition: &'a StructDef) -> Result<bool, OutOfMemory>
         requires new { has definition.now.name (structs_by_name self.old) ≡ false }
-        requires few { length definition.now.fields < 2 ^ 32 }
-        requires small { AreSmall (struct_layouts [] self.old) definition.now.fields }
         ensures fits { IfOk result (λ added. added ≡ is_size (struct_size self.old definition.now.fields)) }
         ensures more { IfOk result (λ added. self.new ≡ (if added then self.old ++ definition.now ∷ [] else self.old)) }
         ensures err { OnErr result (self.new ≡ self.old) }
     {
         let mut starts = Starts::new(*self.map.allocator());
-        let extent = self.of_fields(&mut starts, definition.fields.as_slice())?;
-        if extent.size > 16777216 {
-            return Ok(false);
+        match self.of_fields(&mut starts, definition.fields.as_slice())? {
+            Some(extent) => {
+                self.keep(definition, extent, starts)?;
+                Ok(true)
+            }
+            None => Ok(false),
         }
-        self.keep(definition, extent, starts)?;
-        Ok(true)
     }
 
     /// Keeps a struct of a new name, with its extent and where its fields begin.
@@ -371,7 +389,7 @@ impl<'a> Structs<'a> {
     ) -> Result<(), OutOfMemory>
         requires new { has definition.now.name (structs_by_name self.old) ≡ false }
         requires same { extent ≡ extent_of (with_fields (struct_layouts [] self.old) empty_layout definition.now.fields) }
-        requires small { extent.size ≤ 16777216 }
+        requires small { struct_size self.old definition.now.fields ≤ 16777216 }
         requires offsets { starts.offsets.items ≡ field_starts (struct_layouts [] self.old) 0 definition.now.fields }
         requires slots { starts.slots.items ≡ slots_before (struct_layouts [] self.old) 0 definition.now.fields }
         ensures more { OnOk result (self.new ≡ self.old ++ definition.now ∷ []) }
@@ -437,4 +455,22 @@ fn next_multiple(n: u64, align: u64) -> u64
     ensures near { result < n + 8 }
 {
     (n + (align - 1)) / align * align
+}
+
+/// The extent of a struct whose fields end here: up to a multiple of its alignment; None where that is behind 2^24 bytes.
+fn rounded(whole: Extent) -> Option<Extent>
+    requires size { whole.size ≤ 16777216 }
+    requires least { 1 ≤ whole.align }
+    requires most { whole.align ≤ 8 }
+    ensures { IsBounded (extent_rounded whole) result }
+{
+    let size = next_multiple(whole.size, whole.align);
+    if size > 16777216 {
+        return None;
+    }
+    Some(Extent {
+        size,
+        align: whole.align,
+        slots: whole.slots,
+    })
 }

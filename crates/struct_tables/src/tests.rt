@@ -3,16 +3,19 @@
 //!     struct a { i8 x; i32 y; }               4 and 8 bytes: x at 0, y at 4
 //!     struct b { i16 m; a rows[3]; i8 z; }    4 and 32 bytes: m at 0, the rows at 4, 12 and 20, z at 28
 
-ghost use Rattle.std.specs.Prelude.{◌≤◌, ◌^◌, [], IsTrue};
-ghost use Rattle.gimple_core.specs.Layout.{struct_layouts, layout_of};
-ghost use Rattle.struct_tables.specs.Sizes.{AreSmall};
+ghost use Rattle.std.specs.Prelude.{◌≡◌, ◌≤◌, ◌^◌, [], ◌∷◌, Some, None, IfOk, IsTrue};
+ghost use Rattle.gimple_ir.specs.declared.declarations.Shape.{Shape};
+ghost use Rattle.gimple_ir.specs.declared.scalar.Scalar.{Scalar};
+ghost use Rattle.gimple_core.specs.Layout.{layout_of};
 
 use super::Structs;
 use gimple_core::{Decl, Decls, OutOfMemory, Scalar, Shape, StructDef, StructDefs, Text};
 use std::alloc::Global as Heap;
 use std::test::Fail;
 
-fn decl(alloc: Heap, name: &[u8], shape: Shape, length: Option<u64>) -> Result<Decl, OutOfMemory> {
+fn decl(alloc: Heap, name: &[u8], shape: Shape, length: Option<u64>) -> Result<Decl, OutOfMemory>
+    ensures { IfOk result (λ d. d ≡ record { name = name.now; shape = shape; length = length }) }
+{
     Ok(Decl {
         name: Text::from_bytes(alloc, name)?,
         shape,
@@ -20,25 +23,33 @@ fn decl(alloc: Heap, name: &[u8], shape: Shape, length: Option<u64>) -> Result<D
     })
 }
 
-fn named(alloc: Heap, name: &[u8]) -> Result<Shape, OutOfMemory> {
+fn named(alloc: Heap, name: &[u8]) -> Result<Shape, OutOfMemory>
+    ensures { IfOk result (λ s. s ≡ Shape.Named name.now) }
+{
     Ok(Shape::Named(Text::from_bytes(alloc, name)?))
 }
 
-fn definition(alloc: Heap, name: &[u8], fields: Decls) -> Result<StructDef, OutOfMemory> {
+fn definition(alloc: Heap, name: &[u8], fields: Decls) -> Result<StructDef, OutOfMemory>
+    ensures { IfOk result (λ s. s ≡ record { name = name.now; fields = fields }) }
+{
     Ok(StructDef {
         name: Text::from_bytes(alloc, name)?,
         fields,
     })
 }
 
-fn pair(alloc: Heap) -> Result<StructDef, OutOfMemory> {
+fn pair(alloc: Heap) -> Result<StructDef, OutOfMemory>
+    ensures { IfOk result (λ s. s ≡ record { name = 97 ∷ []; fields = record { name = 120 ∷ []; shape = Shape.Plain Scalar.I8; length = None } ∷ record { name = 121 ∷ []; shape = Shape.Plain Scalar.I32; length = None } ∷ [] }) }
+{
     let mut fields = Decls::new(alloc);
     fields.push(decl(alloc, b"x", Shape::Plain(Scalar::I8), None)?)?;
     fields.push(decl(alloc, b"y", Shape::Plain(Scalar::I32), None)?)?;
     definition(alloc, b"a", fields)
 }
 
-fn rows(alloc: Heap) -> Result<StructDef, OutOfMemory> {
+fn rows(alloc: Heap) -> Result<StructDef, OutOfMemory>
+    ensures { IfOk result (λ s. s ≡ record { name = 98 ∷ []; fields = record { name = 109 ∷ []; shape = Shape.Plain Scalar.I16; length = None } ∷ record { name = 114 ∷ 111 ∷ 119 ∷ 115 ∷ []; shape = Shape.Named (97 ∷ []); length = Some 3 } ∷ record { name = 122 ∷ []; shape = Shape.Plain Scalar.I8; length = None } ∷ [] }) }
+{
     let mut fields = Decls::new(alloc);
     fields.push(decl(alloc, b"m", Shape::Plain(Scalar::I16), None)?)?;
     fields.push(decl(alloc, b"rows", named(alloc, b"a")?, Some(3))?)?;
@@ -65,37 +76,12 @@ fn is_small<'a>(structs: &Structs<'a>, decl: &'a Decl) -> bool
     u128::from(count) * u128::from(structs.extent(&decl.shape).size) <= 16777216
 }
 
-/// Whether the size of each of these fields is at most 2^24.
-#[tactic(auto, unfolding(gimple_core::specs::Layout::layout_of))]
-fn are_small<'a>(structs: &Structs<'a>, fields: &'a [Decl]) -> bool
-    ensures { IsTrue result → AreSmall (struct_layouts [] structs.now) fields.now }
-{
-    match fields {
-        [] => true,
-        [next, after @ ..] => {
-            if !is_small(structs, next) {
-                return false;
-            }
-            are_small(structs, after)
-        }
-    }
-}
-
-fn add<'a>(structs: &mut Structs<'a>, definition: &'a StructDef) -> Result<bool, OutOfMemory> {
-    let fields = definition.fields.as_slice();
-    if structs.has(definition.name.as_slice()) || fields.len() > 9 {
-        return Ok(false);
-    }
-    if !are_small(structs, fields) {
-        return Ok(false);
-    }
-    structs.push(definition)
-}
-
 fn table<'a>(alloc: Heap, definitions: &'a [StructDef]) -> Result<Structs<'a>, OutOfMemory> {
     let mut structs = Structs::new(alloc);
     for definition in definitions {
-        add(&mut structs, definition)?;
+        if !structs.has(definition.name.as_slice()) {
+            structs.push(definition)?;
+        }
     }
     Ok(structs)
 }
@@ -139,5 +125,52 @@ fn an_array_of_structs(rt: HostRuntime) -> Result<(), Fail> {
     let both = decl(alloc, b"both", named(alloc, b"b")?, Some(2))?;
     let numbered = are_numbered(alloc, definitions.as_slice(), &both)?;
     assert!(rt; numbered);
+    Ok(())
+}
+
+#[test]
+fn places_in_structs(rt: HostRuntime) -> Result<(), Fail> {
+    let alloc = rt.alloc();
+    let pair = pair(alloc)?;
+    let rows = rows(alloc)?;
+    let mut definitions = StructDefs::new(alloc);
+    definitions.push(pair)?;
+    definitions.push(rows)?;
+    let both = decl(alloc, b"both", named(alloc, b"b")?, Some(2))?;
+    let structs = Structs::of(alloc, definitions.as_slice())?;
+    assert!(rt; structs.has(b"b") && !structs.has(b"both"));
+    let one = structs.extent(&both.shape);
+    assert_eq!(rt; (one.size, one.align, one.slots), (32, 4, 8));
+    assert!(rt; structs.has_slots(&both, 16) && !structs.has_slots(&both, 17));
+    // `both[1].rows[2].y` lies at 32 + 4 + 2 * 8 + 4, behind 8 + 1 + 2 * 2 + 1 slots.
+    assert!(rt; structs.has_slot(&both, 56, Scalar::I32));
+    assert!(rt; !structs.has_slot(&both, 56, Scalar::I8));
+    assert!(rt; structs.slot_scalar(&both, 14) == Some(Scalar::I32));
+    // Nothing lies in the three bytes behind `both[1].rows[2].x`, nor behind `both[1].z`.
+    assert!(rt; structs.has_slot(&both, 52, Scalar::I8));
+    assert!(rt; !structs.has_slot(&both, 53, Scalar::I8));
+    assert!(rt; structs.slot_scalar(&both, 15) == Some(Scalar::I8));
+    assert!(rt; structs.slot_scalar(&both, 16).is_none());
+    Ok(())
+}
+
+/// `struct c { u8 x[length]; };`
+fn bytes(alloc: Heap, length: u64) -> Result<StructDef, OutOfMemory> {
+    let mut fields = Decls::new(alloc);
+    fields.push(decl(alloc, b"x", Shape::Plain(Scalar::U8), Some(length))?)?;
+    definition(alloc, b"c", fields)
+}
+
+#[test]
+fn too_large_a_struct(rt: HostRuntime) -> Result<(), Fail> {
+    let alloc = rt.alloc();
+    let largest = bytes(alloc, 16777216)?;
+    let mut structs = Structs::new(alloc);
+    assert!(rt; structs.push(&largest)?);
+    assert!(rt; structs.has(b"c"));
+    let larger = bytes(alloc, 16777217)?;
+    let mut structs = Structs::new(alloc);
+    assert!(rt; !structs.push(&larger)?);
+    assert!(rt; !structs.has(b"c"));
     Ok(())
 }

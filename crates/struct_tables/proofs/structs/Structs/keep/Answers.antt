@@ -1,10 +1,10 @@
-use Rattle.std.proofs.Common.{◌≡◌, ◌∙◌, ◌≤◌, ℕ, List, [], ◌∷◌, ◌++◌, ap, sym, subst, arith, Bor}
+use Rattle.std.proofs.Common.{◌≡◌, ◌∙◌, ◌≤◌, ℕ, List, [], ◌∷◌, ◌++◌, ap, sym, subst, Bor}
 use Rattle.indexmap.proofs.CallerLemmas.{insert_entry-new}
 use Rattle.gimple_ir.specs.declared.declarations.StructDef.{StructDef}
+use Rattle.gimple_core.specs.Declarations.{struct_size}
 use Rattle.gimple_core.specs.Env.{has, structs_by_name}
 use Rattle.gimple_core.specs.Layout.{empty_layout, with_fields, struct_layouts}
 use Rattle.struct_tables.specs.Sizes.{extent_of, field_starts, slots_before, definitions, IsKept, AreKept}
-use Rattle.struct_tables.specs.declared.structs.Extent.{Extent}
 use Rattle.struct_tables.specs.declared.structs.Kept.{Kept}
 use Rattle.struct_tables.proofs.KeptLemmas.{has_is, known_length, kept_added, definitions_added}
 use Rattle.struct_tables.proofs.KeptLemmas.{no_value}
@@ -20,9 +20,7 @@ invariant_of-self-2 c =
     let new : c.insert.new.self.entries ≡ es ++ (key, kept) ∷ [] = c.in_ok-insert.ensures.entries ∙ insert_entry-new _ c.self.inside.map key kept gone in
     let e : c.args.extent ≡ extent_of (with_fields (struct_layouts [] (definitions es)) empty_layout s.fields) =
     c.requires.same ∙ ap (λ ss. extent_of (with_fields (struct_layouts [] ss) empty_layout s.fields)) (sym c.self.view_is) in
-    let f : c.args.extent.size ≡ (with_fields (struct_layouts [] (definitions es)) empty_layout s.fields).size = ap (λ (x : Extent). x.size) e in
-    let l : c.args.extent.size ≤ 16777216 = c.requires.small in
-    let small : (with_fields (struct_layouts [] (definitions es)) empty_layout s.fields).size ≤ 16777216 = omega (arith, f, l) in
+    let small : (with_fields (struct_layouts [] (definitions es)) empty_layout s.fields).size ≤ 16777216 = subst (λ ss. struct_size ss s.fields ≤ 16777216) (sym c.self.view_is) c.requires.small in
     let offsets : c.args.starts.offsets.items ≡ field_starts (struct_layouts [] (definitions es)) 0 s.fields = c.requires.offsets ∙ ap (λ ss. field_starts (struct_layouts [] ss) 0 s.fields) (sym c.self.view_is) in
     let slots : c.args.starts.slots.items ≡ slots_before (struct_layouts [] (definitions es)) 0 s.fields = c.requires.slots ∙ ap (λ ss. slots_before (struct_layouts [] ss) 0 s.fields) (sym c.self.view_is) in
     let one : IsKept (struct_layouts [] (definitions es)) (key, kept) = record { name = c.as_slice.ensures; number = c.len.ensures.len ∙ known_length es; extent = e; small = small; offsets = offsets; slots = slots } in
