@@ -3,7 +3,6 @@
 ghost use Rattle.std.specs.Prelude.{◌≡◌, ◌<◌, ◌^◌, [], ◌∷◌, ◌++◌, length, OnOk, IfOk};
 ghost use Rattle.gimple_core.specs.Env.{has, structs_by_name};
 ghost use Rattle.gimple_core.specs.Declarations as spec;
-ghost use Rattle.gimple_core.specs.Layout.{count_of};
 ghost use Rattle.gimple_types.specs.Tables.{AreAmong};
 ghost use Rattle.gimple_types.specs.Verdicts.{Becomes, Judges};
 
@@ -13,22 +12,13 @@ use gimple_core::{Decl, Shape, Site, StructDef, Text};
 use std::alloc::Global as Heap;
 use struct_tables::Structs;
 
-/// The length of an array, and 1 for what is none.
-fn count_of(length: Option<u64>) -> u64
-    ensures { result ≡ count_of length }
-{
-    length.unwrap_or(1)
-}
-
 /// A variable's length is not 0, and its size at most 2^24.
-#[tactic(auto, unfolding(gimple_core::specs::Declarations::sized, gimple_core::specs::Layout::layout_of))]
+#[tactic(auto, unfolding(gimple_core::specs::Declarations::sized))]
 pub(crate) fn sized<'a>(structs: &Structs<'a>, decl: &'a Decl) -> Result<(), u8>
     ensures { result ≡ spec.sized structs.now decl.now }
 {
-    let count = count_of(decl.length);
-    demand(count != 0, 12)?;
-    let size = u128::from(count) * u128::from(structs.extent(&decl.shape).size);
-    demand(size <= 16777216, 12)
+    demand(!matches!(decl.length, Some(0)), 12)?;
+    demand(structs.size_of(decl) <= 16777216, 12)
 }
 
 /// Whether a struct of this name stands in a list.

@@ -75,8 +75,8 @@ pub(crate) enum Inside<'a> {
     },
 }
 
-/// Structs in file order, no two of one name and none larger than 2^24 bytes. A field lies at the least multiple of its alignment behind the field before it, and a struct ends at a multiple of its own
-/// alignment, which is the largest of its fields; its size is 0 and its alignment 1 where no struct before has the name that a field gives.
+/// Structs in file order, each found by its name: no two have one name, and none is larger than 2^24 bytes. What they say of a variable is the layout rule of docs/LANGUAGE.md: a scalar of n bytes has alignment n,
+/// each field lies at the next multiple of its alignment, a struct's size is rounded up to its greatest alignment, and the elements of an array touch. The name of a struct that is not there stands for 0 bytes.
 #[derive(Drop)]
 pub struct Structs<'a> {
     pub(crate) map: IndexMap<&'a [u8], Kept<'a>>,
@@ -104,7 +104,7 @@ impl<'a> Structs<'a> {
         }
     }
 
-    /// These structs, which are to have a table, as those of an accepted program do. Err is want of memory.
+    /// These structs, of which each has a name that none before it has and is at most 2^24 bytes large, as in an accepted program. Err is want of memory.
     pub fn of(alloc: Heap, structs: &'a [StructDef]) -> Result<Structs<'a>, OutOfMemory>
         requires { HaveTable structs.now }
         ensures { IfOk result (λ s. s ≡ structs.now) }
@@ -176,7 +176,7 @@ impl<'a> Structs<'a> {
         self.element(bound, shape)
     }
 
-    /// The extent of a value of this shape; that of a struct that is not there is 0 bytes, aligned to 1, without slots.
+    /// How large a value of this shape is; one of a struct that is not there has 0 bytes, aligned to 1, and no slots.
     pub fn extent(&self, shape: &Shape) -> Extent
         ensures same { result ≡ extent_of (shape_layout (struct_layouts [] self.now) shape.now) }
         ensures least { 1 ≤ result.align }
@@ -185,6 +185,14 @@ impl<'a> Structs<'a> {
         ensures small { result.size ≤ 16777216 }
     {
         self.extent_before(self.map.len(), shape)
+    }
+
+    /// The size of a variable in bytes: that of a value of its shape, times its length.
+    #[tactic(auto, unfolding(gimple_core::specs::Layout::layout_of))]
+    pub fn size_of(&self, decl: &Decl) -> u128
+        ensures { result ≡ (layout_of self.now decl.now).size }
+    {
+        end_of(0, count_of(decl.length), self.extent(&decl.shape).size)
     }
 
     /// Whether a variable has at least so many slots.
@@ -196,7 +204,7 @@ impl<'a> Structs<'a> {
         least as u128 <= slots
     }
 
-    /// Whether a variable has a slot of this offset and scalar.
+    /// Whether a variable has a slot of this offset and scalar. The time is the logarithm of the number of fields in each struct on the way to the slot.
     #[tactic(auto, using(crate::proofs::SizeLemmas::has_negative))]
     pub fn has_slot(&self, decl: &Decl, offset: i128, scalar: Scalar) -> bool
         ensures { result ≡ has_slot (layout_of self.now decl.now).slots offset scalar }
@@ -363,7 +371,7 @@ impl<'a> Structs<'a> {
         Ok(rounded(whole))
     }
 
-    /// Adds a struct of a new name behind the others, unless it is larger than 2^24 bytes. Ok says whether it was added. Err is want of memory, and the structs are what they were.
+    /// Adds a struct of a new name behind the others, unless it is larger than 2^24 bytes: Ok says whether it was added. Err is want of memory, and nothing was added.
     pub fn push(&mut self, definition: &'a StructDef) -> Result<bool, OutOfMemory>
         requires new { has definition.now.name (structs_by_name self.old) ≡ false }
         ensures fits { IfOk result (λ added. added ≡ is_size (struct_size self.old definition.now.fields)) }

@@ -65,15 +65,10 @@ fn definitions(alloc: Heap) -> Result<StructDefs, OutOfMemory> {
 }
 
 /// Whether a variable's size is at most 2^24.
-#[tactic(auto, unfolding(gimple_core::specs::Layout::layout_of))]
 fn is_small<'a>(structs: &Structs<'a>, decl: &'a Decl) -> bool
     ensures { IsTrue result → (layout_of structs.now decl.now).size ≤ 2 ^ 24 }
 {
-    let count = match decl.length {
-        Some(count) => count,
-        None => 1,
-    };
-    u128::from(count) * u128::from(structs.extent(&decl.shape).size) <= 16777216
+    structs.size_of(decl) <= 16777216
 }
 
 fn table<'a>(alloc: Heap, definitions: &'a [StructDef]) -> Result<Structs<'a>, OutOfMemory> {
