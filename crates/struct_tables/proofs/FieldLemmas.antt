@@ -68,11 +68,6 @@ pub starts_length : (known : List KnownLayout) (fs : List Decl) (size : ℕ) →
 starts_length known [] size = refl
 starts_length known (f ∷ fs) size = ap suc (starts_length known fs (field_end known size f))
 
--- behind the last field
-pub starts_done : (known : List KnownLayout) (size : ℕ) (fs : List Decl) (xs : List ℕ) → length fs < 1 → xs ++ field_starts known size fs ≡ xs
-starts_done known size [] xs l = append-nil xs
-starts_done known size (f ∷ fs) xs l = absurd (omega (arith, l))
-
 pub starts_ahead : (known : List KnownLayout) (fs : List Decl) (size i d : ℕ) → All (λ k. IsLayout k.layout) known → i < length (field_starts known size fs) → size ≤ get_or (field_starts known size fs) i d
 starts_ahead known [] size i d h l = absurd (omega (arith, l))
 starts_ahead known (f ∷ fs) size zero d h l = start_least known size f h

@@ -71,11 +71,6 @@ pub before_length : (known : List KnownLayout) (fs : List Decl) (n : ℕ) → le
 before_length known [] n = refl
 before_length known (f ∷ fs) n = ap suc (before_length known fs (n + length (decl_layout known f).slots))
 
--- behind the last field
-pub before_done : (known : List KnownLayout) (n : ℕ) (fs : List Decl) (xs : List ℕ) → length fs < 1 → xs ++ slots_before known n fs ≡ xs
-before_done known n [] xs l = append-nil xs
-before_done known n (f ∷ fs) xs l = absurd (omega (arith, l))
-
 before_ahead : (known : List KnownLayout) (fs : List Decl) (n i d : ℕ) → i < length (slots_before known n fs) → n ≤ get_or (slots_before known n fs) i d
 before_ahead known [] n i d l = absurd (omega (arith, l))
 before_ahead known (f ∷ fs) n zero d l = omega arith

@@ -1,4 +1,4 @@
--- Layouts of structs that passed their checks.
+-- Layouts and extents of the structs of a table.
 use Rattle.std.proofs.Common.{◌≡◌, ℕ, ◌+◌, ◌*◌, ◌<◌, ◌≤◌, ◌^◌, Bool, true, false, if◌then◌else◌, List, [], ◌∷◌, ◌++◌, length, max, find, Option, Some, refl, ◌∙◌, ap, subst, arith, Bor, get_or}
 use Rattle.std.specs.List.{All}
 use Rattle.std.proofs.lemmas.List.{length-append}

@@ -72,7 +72,7 @@ definitions es = map (λ e. e.1.definition.now) es
 abbrev pub first_layouts : ℕ → List StructDef → List KnownLayout
 first_layouts n ss = take n (struct_layouts [] ss)
 
--- the layout of a struct that passed its checks: it has no more slots than bytes
+-- the layout of a struct of a table: it has no more slots than bytes, and at most 2^24 bytes
 pub record IsSolid (l : Layout) : Type 0 where
   pub lawful : IsLayout l
   pub dense : length l.slots ≤ l.size
