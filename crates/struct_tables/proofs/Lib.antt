@@ -4,5 +4,6 @@ pub mod FieldLemmas
 pub mod NumberedLemmas
 pub mod StartLemmas
 pub mod KeptLemmas
-pub mod SlotLemmas
+pub mod OffsetLemmas
+pub mod ListingLemmas
 pub mod AcceptedStructs

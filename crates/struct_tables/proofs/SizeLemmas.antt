@@ -1,11 +1,12 @@
 -- Slots of elements in a row.
-use Rattle.std.proofs.Common.{◌≡◌, ℕ, zero, suc, ◌+◌, ◌-◌, ◌*◌, ◌%◌, ◌<◌, ◌≤◌, ◌==◌, Bool, true, false, ◌&&◌, ◌||◌, List, [], ◌∷◌, length, refl, sym, ◌∙◌, ap, arith, pos, negsuc, ⊎_elim}
+use Rattle.std.proofs.Common.{◌≡◌, ℕ, zero, suc, ◌+◌, ◌-◌, ◌*◌, ◌/◌, ◌%◌, ◌<◌, ◌≤◌, ◌==◌, Bool, true, false, ◌&&◌, ◌||◌, List, [], ◌∷◌, length, refl, sym, ◌∙◌, ap, arith, pos, negsuc}
 use Rattle.std.specs.List.{All}
-use Rattle.std.proofs.lemmas.Nat.{mod-mul-add}
+use Rattle.std.proofs.Math.Nat.{div-lt_iff_lt-mul, mod-lt}
+use Rattle.std.proofs.lemmas.Nat.{mod-mul-add, div-mul-add}
 use Rattle.std.proofs.lemmas.List.{length-append}
 use Rattle.std.proofs.lemmas.List.Elements.{All-head, All-tail}
 use Rattle.std.proofs.lemmas.List.Folds.{list_any-append}
-use Rattle.std.proofs.lemmas.Bool.{eqb-true, cases_lt}
+use Rattle.std.proofs.lemmas.Bool.{eqb-true}
 use Rattle.gimple_ir.specs.declared.scalar.Scalar.{Scalar}
 use Rattle.gimple_ir.specs.declared.value.LayoutSlot.{LayoutSlot}
 use Rattle.gimple_core.specs.Memory.{same_scalar}
@@ -58,22 +59,6 @@ in_element n size o l h =
     let e : n * size + (o - n * size) ≡ o = omega (arith, l) in
     sym (mod-mul-add n size (o - n * size) b) ∙ ap (λ x. x % size) e
 
-or_false : (b : Bool) → b || false ≡ b
-or_false true = refl
-or_false false = refl
-
--- an offset within the elements
-pub has_within : (n size o : ℕ) (slots : List LayoutSlot) (scalar : Scalar) → All (λ s. s.offset < size) slots → o < n * size → has_slot slots (pos (o % size)) scalar ≡ has_slot (repeated n size slots) (pos o) scalar
-has_within zero size o slots scalar w l = let z : ⊥ = omega (arith, l) in absurd z
-has_within (suc n) size o slots scalar w l =
-    let seam = list_any-append (is_slot_at (pos o) scalar) (repeated n size slots) (moved (n * size) slots) in
-    ⊎_elim
-    (λ h. has_within n size o slots scalar w h ∙ sym (or_false (has_slot (repeated n size slots) (pos o) scalar))
-    ∙ ap (λ b. has_slot (repeated n size slots) (pos o) scalar || b) (sym (has_before_moved (n * size) o slots scalar h)) ∙ sym seam)
-    (λ h. ap (λ x. has_slot slots (pos x) scalar) (sym (in_element n size o h l)) ∙ sym (has_moved (n * size) o slots scalar h)
-    ∙ ap (λ b. b || has_slot (moved (n * size) slots) (pos o) scalar) (has_behind n size o slots scalar w h) ∙ sym seam)
-    (cases_lt o (n * size))
-
 pub moved_length : (by : ℕ) (slots : List LayoutSlot) → length (moved by slots) ≡ length slots
 moved_length by [] = refl
 moved_length by (s ∷ slots) = ap suc (moved_length by slots)
@@ -85,3 +70,23 @@ repeated_length (suc n) size slots =
     let a = repeated_length n size slots in
     let b = moved_length (n * size) slots in
     grind (arith, e, a, b)
+
+-- the element in which a place lies
+pub in_number : (n size o : ℕ) → n * size ≤ o → o < suc n * size → o / size ≡ n
+in_number n size o l h =
+    let b : o - n * size < size = grind (arith, l, h) in
+    let e : n * size + (o - n * size) ≡ o = omega (arith, l) in
+    ap (λ x. x / size) (sym e) ∙ div-mul-add n size (o - n * size) b
+
+some_size : (n size o : ℕ) → o < n * size → 0 < size
+some_size n zero o l = grind (arith, l)
+some_size n (suc size) o l = omega arith
+
+element_before : (n size o : ℕ) → o < n * size → o / size < n
+element_before n size o l = (div-lt_iff_lt-mul (some_size n size o l)).1 l
+
+pub within_element : (n size o : ℕ) → o < n * size → o % size < size
+within_element n size o l = mod-lt o (some_size n size o l)
+
+pub element_fits : (n size o unit : ℕ) → o < n * size → o / size * unit + unit ≤ n * unit
+element_fits n size o unit l = let q : o / size < n = element_before n size o l in grind (arith, q)

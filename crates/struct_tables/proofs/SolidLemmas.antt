@@ -127,7 +127,13 @@ extent_above known e (x ∷ fs) f n h l some is above =
     let more = extent_grows known (extent_with known e x) fs h (omega (arith, l)) in
     omega (arith, large, more)
 
--- ---- how many slots a variable has at most
+-- ---- how large a variable is at most
+
+pub small_size : (known : List KnownLayout) (d : Decl) → All Solid known → count_of d.length < 2 ^ 64 → (decl_layout known d).size < 2 ^ 127
+small_size known d h k =
+    let m : (shape_layout known d.shape).size ≤ 16777216 = (shape_solid known d.shape h).small in
+    let p : count_of d.length * (shape_layout known d.shape).size ≤ count_of d.length * 16777216 = grind (arith, m) in
+    omega (arith, p, k)
 
 pub few_slots : (known : List KnownLayout) (d : Decl) → All Solid known → count_of d.length < 2 ^ 64 → length (decl_layout known d).slots < 2 ^ 127
 few_slots known d h k =

@@ -1,5 +1,5 @@
--- Sizes of structs and variables, what is kept of structs, and where a place in a variable leads.
-use Rattle.std.specs.Prelude.{◌≡◌, ◌≤◌, ◌<◌, ℕ, ◌+◌, ◌-◌, false, max, List, [], ◌∷◌, ◌++◌, map, length, take, find, Option, Some, None, slice_get, slice_index_or, pos}
+-- Sizes of structs and variables, and what is kept of structs.
+use Rattle.std.specs.Prelude.{◌≡◌, ◌≤◌, ◌<◌, ℕ, ◌+◌, max, List, [], ◌∷◌, ◌++◌, map, length, take, find, Option, Some, None, slice_get}
 use Rattle.std.specs.Option.{option_map}
 use Rattle.std.specs.Borrow.{Bor}
 use Rattle.gimple_ir.specs.declared.scalar.Scalar.{Scalar}
@@ -9,13 +9,9 @@ use Rattle.gimple_ir.specs.declared.declarations.Decl.{Decl}
 use Rattle.gimple_ir.specs.declared.declarations.StructDef.{StructDef}
 use Rattle.gimple_core.specs.declared.layout.KnownLayout.{KnownLayout}
 use Rattle.gimple_core.specs.Layout.{empty_layout, moved, round_up, decl_layout, with_fields, struct_layouts, IsLayout}
-use Rattle.gimple_core.specs.Memory.{same_scalar}
 use Rattle.gimple_core.specs.Names.{same_name}
-use Rattle.gimple_core.specs.Statements.{has_slot}
 use Rattle.struct_tables.specs.declared.structs.Extent.{Extent}
 use Rattle.struct_tables.specs.declared.structs.Kept.{Kept}
-use Rattle.struct_tables.specs.declared.structs.Inside.{Inside}
-use Rattle.struct_tables.specs.declared.structs.Inside.TheVariants.{Slot, Nothing, Field}
 
 -- ---- sizes
 
@@ -101,34 +97,6 @@ IsFirst ss bound name (Some kept) = (kept.number < bound)
     × (kept.starts.offsets.items ≡ field_starts (first_layouts kept.number ss) 0 kept.definition.now.fields)
     × (kept.starts.slots.items ≡ slots_before (first_layouts kept.number ss) 0 kept.definition.now.fields)
 
--- ---- slots
-
--- the field of this number is the last one that begins at a place or before it, and the rest is the way from there
-pub record IsLastFrom (fields : List Decl) (starts : List ℕ) (place : ℕ) (field : Decl) (rest : ℕ) (k : ℕ) : Type 0 where
-  pub within : k < length starts
-  pub field_is : (d : Decl) → field ≡ slice_index_or fields k d
-  pub begun : (d : ℕ) → slice_index_or starts k d ≤ place
-  pub rest_is : (d : ℕ) → rest ≡ place - slice_index_or starts k d
-  pub later : (i d : ℕ) → k < i → i < length starts → place < slice_index_or starts i d
-
--- the last field of the struct of a number that begins at a place or before it
-abbrev pub IsFieldFrom : List Decl → List ℕ → ℕ → ℕ → Inside → Type 0
-IsFieldFrom fields starts own place (Slot scalar) = ⊥
-IsFieldFrom fields starts own place Nothing = (i d : ℕ) → i < length starts → place < slice_index_or starts i d
-IsFieldFrom fields starts own place (Field number field rest) = (number ≡ own) × ((k : ℕ) × IsLastFrom fields starts place field.now rest k)
-
--- whether the slots at an offset are those of what was found there, where structs of a number and later ones are not looked at
-abbrev pub LeadsTo : List StructDef → List LayoutSlot → ℕ → ℕ → Inside → Type 0
-LeadsTo ss slots o bound (Slot own) = (scalar : Scalar) → has_slot slots (pos o) scalar ≡ same_scalar own scalar
-LeadsTo ss slots o bound Nothing = (scalar : Scalar) → has_slot slots (pos o) scalar ≡ false
-LeadsTo ss slots o bound (Field number field rest) = (number < bound) × ((scalar : Scalar) → has_slot slots (pos o) scalar ≡ has_slot (decl_layout (first_layouts number ss) field.now).slots (pos rest) scalar)
-
 -- the scalar of a slot by its number
 abbrev pub scalar_at : List LayoutSlot → ℕ → Option Scalar
 scalar_at slots i = option_map (λ s. s.scalar) (slice_get slots i)
-
--- whether the slot of a number is that of what was found there
-abbrev pub NumberLeadsTo : List StructDef → List LayoutSlot → ℕ → ℕ → Inside → Type 0
-NumberLeadsTo ss slots i bound (Slot own) = scalar_at slots i ≡ Some own
-NumberLeadsTo ss slots i bound Nothing = scalar_at slots i ≡ None
-NumberLeadsTo ss slots i bound (Field number field rest) = (number < bound) × (scalar_at slots i ≡ scalar_at (decl_layout (first_layouts number ss) field.now).slots rest)

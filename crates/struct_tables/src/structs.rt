@@ -1,17 +1,14 @@
-//! Structs, and how their variables lie in memory. Slots are not listed: a place in a variable is followed from field to field.
+//! Structs by their names, how large they are, and where their fields begin.
 
-ghost use Rattle.std.specs.Prelude.{◌≡◌, false, ◌+◌, ◌*◌, ◌<◌, ◌≤◌, ◌^◌, [], ◌∷◌, ◌++◌, length, nat_le, pos, OnOk, OnErr, IfOk, IfSome, if◌then◌else◌};
-ghost use Rattle.std.specs.List.Sorted.{IsNonDecreasing};
+ghost use Rattle.std.specs.Prelude.{◌≡◌, false, ◌+◌, ◌*◌, ◌<◌, ◌≤◌, ◌^◌, [], ◌∷◌, ◌++◌, length, nat_le, OnOk, OnErr, IfOk, IfSome, if◌then◌else◌};
 ghost use Rattle.std.specs.Option.{option_copied};
 ghost use Rattle.gimple_core.specs.Layout.{empty_layout, with_fields, decl_layout, shape_layout, struct_layouts, layout_of, count_of, round_up};
 ghost use Rattle.gimple_core.specs.Env.{has, structs_by_name};
-ghost use Rattle.gimple_core.specs.Memory.{same_scalar};
-ghost use Rattle.gimple_core.specs.Statements.{has_slot};
 ghost use Rattle.gimple_core.specs.Declarations.{is_size, struct_size};
-ghost use Rattle.struct_tables.specs.Sizes.{extent_of, extent_rounded, extent_with, field_start, field_starts, first_layouts, scalar_at, slots_before, IsBounded, IsFieldFrom, IsFirst, LeadsTo, NumberLeadsTo};
+ghost use Rattle.struct_tables.specs.Sizes.{extent_of, extent_rounded, extent_with, field_start, field_starts, first_layouts, slots_before, IsBounded, IsFirst};
 ghost use Rattle.struct_tables.specs.Tables.{HaveTable};
 
-use gimple_core::{Decl, OutOfMemory, Scalar, Shape, StructDef, Text, bits};
+use gimple_core::{Decl, OutOfMemory, Shape, StructDef, Text, bits};
 use indexmap::IndexMap;
 use std::alloc::Global as Heap;
 use std::marker::Model;
@@ -62,17 +59,6 @@ pub(crate) struct Kept<'a> {
     pub(crate) number: usize,
     pub(crate) extent: Extent,
     pub(crate) starts: Starts,
-}
-
-/// What stands at a place in a variable: a slot, nothing, or a place in a field of a struct of a number.
-pub(crate) enum Inside<'a> {
-    Slot(Scalar),
-    Nothing,
-    Field {
-        number: usize,
-        field: &'a Decl,
-        rest: u64,
-    },
 }
 
 /// Structs in file order, each found by its name: no two have one name, and none is larger than 2^24 bytes. What they say of a variable is the layout rule of docs/LANGUAGE.md: a scalar of n bytes has alignment n,
@@ -204,115 +190,6 @@ impl<'a> Structs<'a> {
         least as u128 <= slots
     }
 
-    /// Whether a variable has a slot of this offset and scalar. The time is the logarithm of the number of fields in each struct on the way to the slot.
-    #[tactic(auto, using(crate::proofs::SizeLemmas::has_negative))]
-    pub fn has_slot(&self, decl: &Decl, offset: i128, scalar: Scalar) -> bool
-        ensures { result ≡ has_slot (layout_of self.now decl.now).slots offset scalar }
-    {
-        if offset < 0 {
-            return false;
-        }
-        self.has_slot_at(decl, offset as u128, scalar)
-    }
-
-    /// The same of an offset that is not negative.
-    fn has_slot_at(&self, decl: &Decl, offset: u128, scalar: Scalar) -> bool
-        ensures { result ≡ has_slot (layout_of self.now decl.now).slots (pos offset) scalar }
-    {
-        let mut bound = self.map.len();
-        let mut decl = decl;
-        let mut offset = offset;
-        loop {
-            match self.inside(bound, decl, offset) {
-                Inside::Slot(own) => return same_scalar(own, scalar),
-                Inside::Nothing => return false,
-                Inside::Field {
-                    number,
-                    field,
-                    rest,
-                } => {
-                    bound = number;
-                    decl = field;
-                    offset = u128::from(rest);
-                }
-            }
-        }
-    }
-
-    /// What stands at an offset in a variable behind the first structs.
-    fn inside(&self, bound: usize, decl: &Decl, offset: u128) -> Inside<'a>
-        ensures { LeadsTo self.now (decl_layout (first_layouts bound self.now) decl.now).slots offset bound result }
-    {
-        let _ = &self.map;
-        let size = self.extent_before(bound, &decl.shape).size;
-        if offset >= end_of(0, count_of(decl.length), size) {
-            return Inside::Nothing;
-        }
-        let within = (offset % u128::from(size)) as u64;
-        match &decl.shape {
-            Shape::Plain(scalar) => {
-                if within == 0 {
-                    return Inside::Slot(*scalar);
-                }
-                Inside::Nothing
-            }
-            Shape::Named(name) => match self.found(bound, name) {
-                Some(kept) => {
-                    let fields = kept.definition.fields.as_slice();
-                    let offsets = kept.starts.offsets.as_slice();
-                    field_from(kept.number, fields, offsets, within)
-                }
-                None => Inside::Nothing,
-            },
-        }
-    }
-
-    /// The scalar of a variable's slot of this number, counted from 0; None exactly past the last slot.
-    pub fn slot_scalar(&self, decl: &Decl, index: usize) -> Option<Scalar>
-        ensures { result ≡ scalar_at (layout_of self.now decl.now).slots index }
-    {
-        let mut bound = self.map.len();
-        let mut decl = decl;
-        let mut index = index as u64;
-        loop {
-            match self.numbered(bound, decl, index) {
-                Inside::Slot(own) => return Some(own),
-                Inside::Nothing => return None,
-                Inside::Field {
-                    number,
-                    field,
-                    rest,
-                } => {
-                    bound = number;
-                    decl = field;
-                    index = rest;
-                }
-            }
-        }
-    }
-
-    /// Where the slot of a number lies in a variable behind the first structs.
-    fn numbered(&self, bound: usize, decl: &Decl, index: u64) -> Inside<'a>
-        ensures { NumberLeadsTo self.now (decl_layout (first_layouts bound self.now) decl.now).slots index bound result }
-    {
-        let slots = self.extent_before(bound, &decl.shape).slots;
-        if u128::from(index) >= end_of(0, count_of(decl.length), slots) {
-            return Inside::Nothing;
-        }
-        let within = index % slots;
-        match &decl.shape {
-            Shape::Plain(scalar) => Inside::Slot(*scalar),
-            Shape::Named(name) => match self.found(bound, name) {
-                Some(kept) => {
-                    let fields = kept.definition.fields.as_slice();
-                    let starts = kept.starts.slots.as_slice();
-                    field_from(kept.number, fields, starts, within)
-                }
-                None => Inside::Nothing,
-            },
-        }
-    }
-
     /// An extent with one more field, whose start is added to those of the fields before it; None where the field ends behind 2^24 bytes.
     fn with_field(
         &self,
@@ -412,29 +289,6 @@ impl<'a> Structs<'a> {
         self.map.insert(definition.name.as_slice(), kept)?;
         Ok(())
     }
-}
-
-/// The last field of the struct of a number that begins at a place or before it, where the fields begin at these places.
-fn field_from<'a>(number: usize, fields: &'a [Decl], starts: &[u64], place: u64) -> Inside<'a>
-    requires ascending { IsNonDecreasing starts.now }
-    requires each { length starts.now ≡ length fields.now }
-    ensures { IsFieldFrom fields.now starts.now number place result }
-{
-    let behind = starts.partition_point(|start| *start <= place);
-    if behind == 0 {
-        return Inside::Nothing;
-    }
-    Inside::Field {
-        number,
-        field: &fields[behind - 1],
-        rest: place - starts[behind - 1],
-    }
-}
-
-pub(crate) fn same_scalar(left: Scalar, right: Scalar) -> bool
-    ensures { result ≡ same_scalar left right }
-{
-    left == right
 }
 
 /// The length of an array, and 1 for what is none.

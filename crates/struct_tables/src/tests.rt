@@ -3,13 +3,12 @@
 //!     struct a { i8 x; i32 y; }               4 and 8 bytes: x at 0, y at 4
 //!     struct b { i16 m; a rows[3]; i8 z; }    4 and 32 bytes: m at 0, the rows at 4, 12 and 20, z at 28
 
-ghost use Rattle.std.specs.Prelude.{◌≡◌, ◌≤◌, ◌^◌, [], ◌∷◌, Some, None, IfOk, IsTrue};
+ghost use Rattle.std.specs.Prelude.{◌≡◌, [], ◌∷◌, Some, None, IfOk};
 ghost use Rattle.gimple_ir.specs.declared.declarations.Shape.{Shape};
 ghost use Rattle.gimple_ir.specs.declared.scalar.Scalar.{Scalar};
-ghost use Rattle.gimple_core.specs.Layout.{layout_of};
 
 use super::Structs;
-use gimple_core::{Decl, Decls, OutOfMemory, Scalar, Shape, StructDef, StructDefs, Text};
+use gimple_core::{Decl, Decls, OutOfMemory, Scalar, Shape, Slots, StructDef, StructDefs, Text};
 use std::alloc::Global as Heap;
 use std::test::Fail;
 
@@ -57,72 +56,6 @@ fn rows(alloc: Heap) -> Result<StructDef, OutOfMemory>
     definition(alloc, b"b", fields)
 }
 
-fn definitions(alloc: Heap) -> Result<StructDefs, OutOfMemory> {
-    let mut all = StructDefs::new(alloc);
-    all.push(pair(alloc)?)?;
-    all.push(rows(alloc)?)?;
-    Ok(all)
-}
-
-/// Whether a variable's size is at most 2^24.
-fn is_small<'a>(structs: &Structs<'a>, decl: &'a Decl) -> bool
-    ensures { IsTrue result → (layout_of structs.now decl.now).size ≤ 2 ^ 24 }
-{
-    structs.size_of(decl) <= 16777216
-}
-
-fn table<'a>(alloc: Heap, definitions: &'a [StructDef]) -> Result<Structs<'a>, OutOfMemory> {
-    let mut structs = Structs::new(alloc);
-    for definition in definitions {
-        if !structs.has(definition.name.as_slice()) {
-            structs.push(definition)?;
-        }
-    }
-    Ok(structs)
-}
-
-/// Whether a variable's slot of this offset and scalar has this number.
-fn is_number<'a>(
-    structs: &Structs<'a>,
-    decl: &'a Decl,
-    offset: i128,
-    scalar: Scalar,
-    number: Option<usize>,
-) -> bool {
-    if !is_small(structs, decl) {
-        return false;
-    }
-    structs.slot_number(decl, offset, scalar) == number
-}
-
-/// Whether the slots of two of the outer structs have these numbers.
-fn are_numbered<'a>(
-    alloc: Heap,
-    definitions: &'a [StructDef],
-    decl: &'a Decl,
-) -> Result<bool, OutOfMemory> {
-    let structs = table(alloc, definitions)?;
-    Ok(
-        is_number(&structs, decl, 0, Scalar::I16, Some(0))
-            && is_number(&structs, decl, 16, Scalar::I32, Some(4))
-            && is_number(&structs, decl, 28, Scalar::I8, Some(7))
-            && is_number(&structs, decl, 48, Scalar::I32, Some(12))
-            && is_number(&structs, decl, 48, Scalar::U32, None)
-            && is_number(&structs, decl, 61, Scalar::I8, None)
-            && is_number(&structs, decl, -4, Scalar::I8, None),
-    )
-}
-
-#[test]
-fn an_array_of_structs(rt: HostRuntime) -> Result<(), Fail> {
-    let alloc = rt.alloc();
-    let definitions = definitions(alloc)?;
-    let both = decl(alloc, b"both", named(alloc, b"b")?, Some(2))?;
-    let numbered = are_numbered(alloc, definitions.as_slice(), &both)?;
-    assert!(rt; numbered);
-    Ok(())
-}
-
 #[test]
 fn places_in_structs(rt: HostRuntime) -> Result<(), Fail> {
     let alloc = rt.alloc();
@@ -146,6 +79,39 @@ fn places_in_structs(rt: HostRuntime) -> Result<(), Fail> {
     assert!(rt; !structs.has_slot(&both, 53, Scalar::I8));
     assert!(rt; structs.slot_scalar(&both, 15) == Some(Scalar::I8));
     assert!(rt; structs.slot_scalar(&both, 16).is_none());
+    Ok(())
+}
+
+fn is_slot(slots: &Slots, number: usize, offset: u64, scalar: Scalar) -> bool {
+    match slots.get(number) {
+        Some(slot) => slot.offset == offset && slot.scalar == scalar,
+        None => false,
+    }
+}
+
+#[test]
+fn slots_in_order(rt: HostRuntime) -> Result<(), Fail> {
+    let alloc = rt.alloc();
+    let pair = pair(alloc)?;
+    let rows = rows(alloc)?;
+    let mut definitions = StructDefs::new(alloc);
+    definitions.push(pair)?;
+    definitions.push(rows)?;
+    let both = decl(alloc, b"both", named(alloc, b"b")?, Some(2))?;
+    let structs = Structs::of(alloc, definitions.as_slice())?;
+    assert!(rt; structs.size_of(&both) <= 16777216);
+    // `both[1].rows[2].y`, as above
+    assert!(rt; structs.slot_number(&both, 56, Scalar::I32) == Some(14));
+    assert!(rt; structs.slot_number(&both, 56, Scalar::U32).is_none());
+    assert!(rt; structs.slot_number(&both, -4, Scalar::I8).is_none());
+    let layout = structs.layout_of(alloc, &both)?;
+    assert_eq!(rt;
+        (layout.size, layout.align, layout.slots.len()),
+        (64, 4, 16)
+    );
+    assert!(rt; is_slot(&layout.slots, 7, 28, Scalar::I8));
+    assert!(rt; is_slot(&layout.slots, 8, 32, Scalar::I16));
+    assert!(rt; is_slot(&layout.slots, 14, 56, Scalar::I32));
     Ok(())
 }
 

@@ -1,5 +1,4 @@
-use Rattle.std.proofs.Common.{rules, ◌∙◌, ◌+◌, ◌-◌, ◌<◌, ◌≤◌, nat_le, length, ap, refl, arith}
-use Rattle.std.proofs.lemmas.List.{get_or_default}
+use Rattle.std.proofs.Common.{rules, ◌+◌, ◌-◌, nat_le, ap, refl, arith}
 use Rattle.std.proofs.lemmas.List.Sorted.{IsPartitionPoint-from_clause, IsPartitionedBy-leb}
 use Rattle.struct_tables.proofs.StartLemmas.{IsParted, all_later, last_begins, last_from}
 use Rattle.struct_tables.proofs.slots.part_from.Goals as goal
@@ -20,20 +19,11 @@ pub returns : goal.returns
 returns c =
     let behind = c.partition_point-behind.result in
     let parts : IsParted c.args.starts.now c.args.place c.partition_point-behind.result =
-    IsPartitionPoint-from_clause (λ s. nat_le s c.args.place) _ _ c.partition_point-behind.ensures.partitioned (IsPartitionedBy-leb (λ x. x) c.args.starts.now c.args.place c.requires.ascending) (λ a r f k. search rules) in
-    let last = last_from c.args.fields.now c.args.starts.now c.args.place behind c.index-fields-behind.result parts c.partition_point-behind.ensures.bound (omega (arith, c.if-behind-eq0.false)) c.requires.each c.index-fields-behind.is in
-    let bound : behind ≤ length c.args.starts.now = c.partition_point-behind.ensures.bound in
-    let m : behind - 1 < length c.args.others.now = omega (arith, bound, c.if-behind-eq0.false, c.requires.each, c.requires.both) in (
+    IsPartitionPoint-from_clause (λ s. nat_le s c.args.place) _ _ c.partition_point-behind.ensures.partitioned (IsPartitionedBy-leb (λ x. x) c.args.starts.now c.args.place c.requires.ascending) (λ a r f k. search rules) in (
       refl,
       (
         behind - 1,
-        record {
-          within = last.within;
-          field_is = last.field_is;
-          before_is = λ d. ap (λ x. c.args.ahead + x) (c.from.ensures ∙ get_or_default c.args.others.now (behind - 1) 0 d m);
-          begun = last.begun;
-          rest_is = last.rest_is;
-          later = last.later;
-        },
+        last_from c.args.fields.now c.args.starts.now c.args.others.now c.args.ahead c.args.place behind (c.args.ahead + c.from.result) c.index-fields-behind.result parts c.partition_point-behind.ensures.bound
+            (omega (arith, c.if-behind-eq0.false)) c.requires.each c.requires.both c.index-fields-behind.is (ap (λ x. c.args.ahead + x) c.from.ensures),
       ),
     )

@@ -1,10 +1,10 @@
 use Rattle.std.proofs.Common.{◌<◌, ◌^◌, ◌∙◌, length, ap, sym, subst, arith}
 use Rattle.gimple_core.specs.Layout.{decl_layout, layout_of, count_of}
 use Rattle.struct_tables.specs.Sizes.{first_layouts}
-use Rattle.struct_tables.specs.Slots.{number_of}
+use Rattle.struct_tables.specs.Slots.{number_at}
 use Rattle.struct_tables.proofs.KeptLemmas.{all_first}
 use Rattle.struct_tables.proofs.SolidLemmas.{few_slots, first_solid}
-use Rattle.struct_tables.proofs.SlotLemmas.{counted_all}
+use Rattle.struct_tables.proofs.OffsetLemmas.{counted_all}
 use Rattle.struct_tables.proofs.structs.Structs.number_at.Goals as goal
 
 pub loop-own-init : goal.loop-own-init
@@ -17,5 +17,5 @@ loop-own-init c =
     let few : length (decl_layout known c.args.decl.now).slots < 2 ^ 127 = few_slots known c.args.decl.now solid count in
     record {
       room = omega (arith, few);
-      same = ap (λ k. number_of (decl_layout k c.args.decl.now).slots c.args.offset c.args.scalar) (sym all) ∙ sym (counted_all (number_of (decl_layout known c.args.decl.now).slots c.args.offset c.args.scalar));
+      same = ap (λ k. number_at (decl_layout k c.args.decl.now).slots c.args.offset c.args.scalar) (sym all) ∙ sym (counted_all (number_at (decl_layout known c.args.decl.now).slots c.args.offset c.args.scalar));
     }
