@@ -1,6 +1,7 @@
 -- What the tables of a program are of.
-use Rattle.std.specs.Prelude.{◌≡◌, ℕ, ℤ, List, map}
+use Rattle.std.specs.Prelude.{◌≡◌, ℕ, ℤ, List}
 use Rattle.gimple_ir.specs.declared.declarations.Global.{Global}
+use Rattle.gimple_ir.specs.declared.program.Function.{Function}
 use Rattle.gimple_ir.specs.declared.program.Program.{Program}
 use Rattle.value_domain.specs.Thresholds.{thresholds_list}
 
@@ -9,8 +10,8 @@ pub record Tabled : Type 0 where
   pub program : Program
   pub size : ℕ
 
--- these are the program's globals, the names of its functions, and its thresholds
-pub record AreTables (p : Program) (gs : List Global) (names : List (List ℕ)) (ts : List ℤ) : Type 0 where
+-- these are the program's globals and functions, and its thresholds
+pub record AreTables (p : Program) (gs : List Global) (fs : List Function) (ts : List ℤ) : Type 0 where
   pub globals : gs ≡ p.globals
-  pub functions : names ≡ map (λ f. f.name) p.functions
+  pub functions : fs ≡ p.functions
   pub thresholds : ts ≡ thresholds_list p

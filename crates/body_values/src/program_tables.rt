@@ -1,13 +1,13 @@
 //! What is found in a program again and again, in tables.
 
-ghost use Rattle.std.specs.Prelude.{◌≡◌, IfOk, find, map, position};
+ghost use Rattle.std.specs.Prelude.{◌≡◌, IfOk, find};
 ghost use Rattle.std.specs.Option.{option_copied};
 ghost use Rattle.gimple_core.specs.Names.{same_name};
 ghost use Rattle.gimple_core.specs.Sealed.{IsAccepted};
 ghost use Rattle.value_domain.specs.Thresholds.{thresholds_list};
 
 use gimple_core::{Checked, Function, OutOfMemory, Params, Program, Text};
-use name_tables::{NamedGlobals, Names};
+use name_tables::{NamedFunctions, NamedGlobals};
 use std::alloc::Global;
 use std::marker::Model;
 use value_domain::{Thresholds, thresholds_of};
@@ -17,7 +17,7 @@ use value_domain::{Thresholds, thresholds_of};
 pub struct ProgramTables<'a> {
     program: &'a Checked,
     globals: NamedGlobals<'a>,
-    functions: Names<'a>,
+    functions: NamedFunctions<'a>,
     limits: Thresholds,
 }
 
@@ -29,16 +29,6 @@ impl<'a> Model for ProgramTables<'a> {
     ghost view = { λ t. record { program = t.program.now.program; size = t.limits.size } };
 
     ghost invariant = { λ t. AreTables t.program.now.program t.globals t.functions t.limits.ends };
-}
-
-fn names_of<'a>(alloc: Global, functions: &'a [Function]) -> Result<Names<'a>, OutOfMemory>
-    ensures { IfOk result (λ names. names ≡ map (λ f. f.name) functions.now) }
-{
-    let mut names = Names::new(alloc);
-    for function in functions {
-        names.push(function.name.as_slice())?;
-    }
-    Ok(names)
 }
 
 impl<'a> ProgramTables<'a> {
@@ -67,7 +57,7 @@ impl<'a> ProgramTables<'a> {
     {
         let inside = program.program();
         let globals = NamedGlobals::new(alloc, inside.globals.as_slice())?;
-        let functions = names_of(alloc, inside.functions.as_slice())?;
+        let functions = NamedFunctions::new(alloc, inside.functions.as_slice())?;
         Ok(ProgramTables {
             program,
             globals,
@@ -100,19 +90,10 @@ impl<'a> ProgramTables<'a> {
         Ok(copy)
     }
 
-    fn place(&self, name: &Text) -> Option<usize>
-        ensures { result ≡ position (λ f. same_name f.name name.now) self.now.program.functions }
-    {
-        self.functions.place(name.as_slice())
-    }
-
     /// The first function of a name; None exactly where no function has it.
     pub fn named_function(&self, name: &Text) -> Option<&'a Function>
         ensures { option_copied result ≡ find (λ f. same_name f.name name.now) self.now.program.functions }
     {
-        match self.place(name) {
-            Some(place) => self.program().functions.get(place),
-            None => None,
-        }
+        self.functions.named(name)
     }
 }
