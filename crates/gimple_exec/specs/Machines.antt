@@ -8,7 +8,7 @@ use Rattle.gimple_ir.specs.declared.program.Program.{Program}
 use Rattle.gimple_core.specs.declared.machine.Cell.{Cell}
 use Rattle.gimple_core.specs.State.{Control, Frame, State}
 use Rattle.gimple_core.specs.Memory.{Memory}
-use Rattle.gimple_core.specs.Layout.{HasLayout}
+use Rattle.gimple_core.specs.Layout.{layout_of}
 use Rattle.gimple_core.specs.Run as run
 use Rattle.gimple_core.specs.Run.{paused, start, cells_made, with_locals, with_globals, no_memory, Goes as GoesOn, Reaches as Ends}
 use Rattle.gimple_ir.specs.declared.value.Outcome.TheVariants.{Going}
@@ -19,6 +19,7 @@ use Rattle.gimple_exec.specs.declared.machine.Step.{Step}
 use Rattle.gimple_exec.specs.declared.machine.Step.TheVariants.{Goes, Reaches}
 use Rattle.gimple_exec.specs.declared.machine.Reach.{Reach}
 use Rattle.gimple_exec.specs.declared.machine.Reach.TheVariants.{Moves, Spent, Stops, Traps}
+use Rattle.struct_tables.specs.Tables.{HaveTable}
 use Rattle.gimple_exec.specs.Acts.{world_of}
 
 abbrev pub no_block : Block
@@ -61,12 +62,13 @@ pub record IsSound (p : Program) (m : Machine) : Type 0 where
   pub top : IsPlaced p m.top
   pub below : ArePlaced p (reverse m.below.items)
 
--- the numbers of globals and locals are those of objects, and each variable has a layout
+-- the numbers of globals and locals are those of objects, the structs have a table, and each variable is at most 2 ^ 24 bytes large
 pub record IsLimited (p : Program) : Type 0 where
   pub globals : length p.globals < 2 ^ 32
   pub locals : (k : ℕ) → length (function_of p k).locals < 2 ^ 32
-  pub global_layouts : All (λ g. HasLayout p.structs g.decl) p.globals
-  pub local_layouts : (k : ℕ) → All (λ d. HasLayout p.structs d) (function_of p k).locals
+  pub structs : HaveTable p.structs
+  pub global_sizes : All (λ g. (layout_of p.structs g.decl).size ≤ 2 ^ 24) p.globals
+  pub local_sizes : (k : ℕ) → All (λ d. (layout_of p.structs d).size ≤ 2 ^ 24) (function_of p k).locals
 
 -- The machine arrives where the definition does, from a state with this next serial: it has moved on, and stays sound; or the
 -- next serial is past those of frames, and the output alone is right; or the run is over.

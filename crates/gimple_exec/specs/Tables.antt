@@ -33,7 +33,8 @@ abbrev pub tables_in : List StructDef → List Function → List FunctionTables
 tables_in structs fs = map (tables_of structs) fs
 
 -- the tables are those of the program
-pub record IsIndexed (p : Program) (callees : List Function) (variables : List Global) (rows : List FunctionTables) : Type 0 where
+pub record IsIndexed (p : Program) (definitions : List StructDef) (callees : List Function) (variables : List Global) (rows : List FunctionTables) : Type 0 where
+  pub structs : definitions ≡ p.structs
   pub functions : callees ≡ p.functions
   pub globals : variables ≡ p.globals
   pub tables : rows ≡ tables_in p.structs p.functions

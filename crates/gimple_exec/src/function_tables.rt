@@ -1,16 +1,15 @@
 //! What is found in a function again and again.
 
-ghost use Rattle.std.specs.Prelude.{◌≡◌, ◌++◌, IfOk, OnOk};
+ghost use Rattle.std.specs.Prelude.{◌≡◌, ◌++◌, ◌≤◌, ◌^◌, IfOk, OnOk};
 ghost use Rattle.std.specs.List.{All};
-ghost use Rattle.gimple_core.specs.Layout.{HasLayout};
+ghost use Rattle.gimple_core.specs.Layout.{layout_of};
 ghost use Rattle.gimple_exec.specs.Frames.{declared_by};
 ghost use Rattle.gimple_exec.specs.Tables.{labels_of, layouts_of, tables_of};
 
-use gimple_core::{
-    Block, Decl, Exact, Function, Layout, Listed, OutOfMemory, Program, Register, layout_of,
-};
+use gimple_core::{Block, Decl, Exact, Function, Layout, Listed, OutOfMemory, Register};
 use name_tables::{Labels, NamedLocals, RegisterTable};
 use std::alloc::Global as Heap;
+use struct_tables::Structs;
 
 /// The places of a function's labels, registers and locals, formals before the other registers, and the layouts of its
 /// locals.
@@ -34,15 +33,15 @@ fn labels_of(alloc: Heap, blocks: &[Block]) -> Result<Labels, OutOfMemory>
 
 fn layouts_of(
     alloc: Heap,
-    program: &Program,
+    structs: &Structs<'_>,
     locals: &[Decl],
 ) -> Result<Listed<Layout>, OutOfMemory>
-    requires { All (λ d. HasLayout program.now.structs d) locals.now }
-    ensures { IfOk result (λ layouts. layouts ≡ layouts_of program.now.structs locals.now) }
+    requires { All (λ d. (layout_of structs.now d).size ≤ 2 ^ 24) locals.now }
+    ensures { IfOk result (λ layouts. layouts ≡ layouts_of structs.now locals.now) }
 {
     let mut layouts = Listed::new(alloc);
     for local in locals {
-        layouts.push(layout_of(alloc, program, local)?)?;
+        layouts.push(structs.layout_of(alloc, local)?)?;
     }
     Ok(layouts)
 }
@@ -66,18 +65,18 @@ fn registers_of(alloc: Heap, function: &Function) -> Result<RegisterTable, OutOf
 }
 
 impl<'a> FunctionTables<'a> {
-    /// The tables of a function of a program. Err is want of memory.
+    /// The tables of a function of a program with these structs. Err is want of memory.
     pub fn new(
         alloc: Heap,
-        program: &Program,
+        structs: &Structs<'_>,
         function: &'a Function,
     ) -> Result<FunctionTables<'a>, OutOfMemory>
-        requires { All (λ d. HasLayout program.now.structs d) function.now.locals }
-        ensures { IfOk result (λ tables. tables ≡ tables_of program.now.structs function.now) }
+        requires { All (λ d. (layout_of structs.now d).size ≤ 2 ^ 24) function.now.locals }
+        ensures { IfOk result (λ tables. tables ≡ tables_of structs.now function.now) }
     {
         Ok(FunctionTables {
             labels: labels_of(alloc, function.blocks.as_slice())?,
-            layouts: layouts_of(alloc, program, function.locals.as_slice())?,
+            layouts: layouts_of(alloc, structs, function.locals.as_slice())?,
             registers: registers_of(alloc, function)?,
             locals: NamedLocals::new(alloc, function.locals.as_slice())?,
         })

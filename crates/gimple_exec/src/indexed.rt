@@ -13,11 +13,13 @@ use gimple_core::{Block, Function, Layout, OutOfMemory, Program, Text};
 use name_tables::{NamedFunctions, NamedGlobals, RegisterTable};
 use std::alloc::Global as Heap;
 use std::marker::Model;
+use struct_tables::Structs;
 
-/// A program with the places of its functions and globals by their names, and the tables of each function.
+/// A program with its structs, functions and globals by their names, and the tables of each function.
 #[derive(Drop)]
 pub struct Indexed<'a> {
     program: &'a Program,
+    structs: Structs<'a>,
     functions: NamedFunctions<'a>,
     globals: NamedGlobals<'a>,
     tables: Vec<FunctionTables<'a>>,
@@ -31,20 +33,22 @@ impl<'a> Model for Indexed<'a> {
 
     ghost view = { λ x. x.program.now };
 
-    ghost invariant = { λ x. IsIndexed x.program.now x.functions x.globals x.tables.items };
+    ghost invariant = { λ x. IsIndexed x.program.now x.structs x.functions x.globals x.tables.items };
 }
 
 fn program_tables<'a>(
     alloc: Heap,
     program: &'a Program,
+    structs: &Structs<'_>,
 ) -> Result<Vec<FunctionTables<'a>>, OutOfMemory>
-    requires { IsLimited program.now }
+    requires limits { IsLimited program.now }
+    requires structs { structs.now ≡ program.now.structs }
     ensures { IfOk result (λ rows. rows.items ≡ tables_in program.now.structs program.now.functions) }
 {
     let functions = program.functions.as_slice();
     let mut rows = Vec::new(alloc);
     for k in 0..functions.len() {
-        rows.push(FunctionTables::new(alloc, program, &functions[k])?)?;
+        rows.push(FunctionTables::new(alloc, structs, &functions[k])?)?;
     }
     Ok(rows)
 }
@@ -55,11 +59,13 @@ impl<'a> Indexed<'a> {
         requires { IsLimited program.now }
         ensures { IfOk result (λ x. x ≡ program.now) }
     {
+        let structs = Structs::of(alloc, program.structs.as_slice())?;
         let functions = NamedFunctions::new(alloc, program.functions.as_slice())?;
         let globals = NamedGlobals::new(alloc, program.globals.as_slice())?;
-        let tables = program_tables(alloc, program)?;
+        let tables = program_tables(alloc, program, &structs)?;
         Ok(Indexed {
             program,
+            structs,
             functions,
             globals,
             tables,
@@ -96,6 +102,13 @@ impl<'a> Indexed<'a> {
         ensures { IsTrue result ↔ ((function_of self.now k).blocks ≡ []) }
     {
         self.function_at(k).blocks.is_empty()
+    }
+
+    /// The structs of the program.
+    pub fn structs(&self) -> &Structs<'a>
+        ensures { result.now ≡ self.now.structs }
+    {
+        &self.structs
     }
 
     /// The globals of the program.

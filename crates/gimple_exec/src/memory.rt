@@ -1,6 +1,6 @@
 //! Memory made of typed slots.
 
-ghost use Rattle.std.specs.Prelude.{◌≡◌, ◌<◌, ◌^◌, ◌++◌, length, map, find, filter, slice_get, unwrap_or, IfOk, OnOk};
+ghost use Rattle.std.specs.Prelude.{◌≡◌, ◌<◌, ◌≤◌, ◌^◌, ◌++◌, length, map, find, filter, slice_get, unwrap_or, IfOk, OnOk};
 ghost use Rattle.std.specs.List.{All};
 ghost use Rattle.std.specs.Option.{option_copied};
 ghost use Rattle.gimple_core.specs.State.{zero_of};
@@ -12,12 +12,13 @@ use crate::indexed::Indexed;
 use crate::slots::Slots;
 use crate::values;
 use gimple_core::{
-    Extent, FoundSlot, Layout, LayoutSlot, MemorySlot, Object, Operand, OutOfMemory, Program,
-    Scalar, TrapKind, Value, layout_of,
+    Extent, FoundSlot, Layout, LayoutSlot, MemorySlot, Object, Operand, OutOfMemory, Scalar,
+    TrapKind, Value,
 };
 use name_tables::NamedGlobals;
 use std::alloc::Global as Heap;
 use std::marker::Model;
+use struct_tables::Structs;
 
 /// An access in an object that lives.
 fn found_in(
@@ -128,7 +129,7 @@ impl Model for Memory {
 }
 
 impl Memory {
-    ghost use Rattle.gimple_core.specs.Layout.{HasLayout};
+    ghost use Rattle.gimple_core.specs.Layout.{layout_of};
     ghost use Rattle.gimple_core.specs.Memory.{without_frame};
     ghost use Rattle.gimple_exec.specs.Machines.{function_of, IsLimited};
     ghost use Rattle.gimple_exec.specs.Tables.{with_layouts};
@@ -217,26 +218,26 @@ impl Memory {
         requires { IsLimited program.now }
         ensures { OnOk result (self.new ≡ with_globals program.now.structs program.now.globals 0 program.now.globals self.old) }
     {
-        let source = program.source();
-        self.add_globals(alloc, source, program.globals(), source.globals.as_slice())
+        let globals = program.source().globals.as_slice();
+        self.add_globals(alloc, program.structs(), program.globals(), globals)
     }
 
     /// Adds these globals, whose items name those of a table.
     fn add_globals(
         &mut self,
         alloc: Heap,
-        program: &Program,
+        structs: &Structs<'_>,
         named: &NamedGlobals<'_>,
         globals: &[gimple_core::Global],
     ) -> Result<(), OutOfMemory>
         requires few { length globals.now < 2 ^ 32 }
         requires named { length named.now < 2 ^ 32 }
-        requires layouts { All (λ g. HasLayout program.now.structs g.decl) globals.now }
-        ensures { OnOk result (self.new ≡ with_globals program.now.structs named.now 0 globals.now self.old) }
+        requires sizes { All (λ g. (layout_of structs.now g.decl).size ≤ 2 ^ 24) globals.now }
+        ensures { OnOk result (self.new ≡ with_globals structs.now named.now 0 globals.now self.old) }
     {
         for k in 0..globals.len() {
             let global = &globals[k];
-            let layout = layout_of(alloc, program, &global.decl)?;
+            let layout = structs.layout_of(alloc, &global.decl)?;
             let values = item_values(alloc, named, global.items.as_slice())?;
             let object = Object::Global(k as u32);
             self.add_object(object, &layout, global.constant, values.as_slice())?;

@@ -3,4 +3,4 @@ use Rattle.gimple_exec.specs.Tables.{layouts_of}
 use Rattle.gimple_exec.proofs.function_tables.layouts_of.Given as goal
 
 abbrev pub invariant-loop-local : goal.invariant-loop-local
-invariant-loop-local l = l.layouts ≡ layouts_of l.program.structs (take l.local-index l.locals)
+invariant-loop-local l = l.layouts ≡ layouts_of l.structs (take l.local-index l.locals)
