@@ -9,7 +9,7 @@ use Rattle.gimple_ir.specs.declared.declarations.Register.{Register}
 use Rattle.gimple_ir.specs.declared.declarations.StructDef.{StructDef}
 use Rattle.gimple_ir.specs.declared.program.Function.{Function}
 use Rattle.gimple_ir.specs.declared.program.Program.{Program}
-use Rattle.gimple_core.specs.Layout.{HasLayout}
+use Rattle.gimple_core.specs.Layout.{layout_of}
 use Rattle.gimple_core.specs.Names.{same_name}
 use Rattle.gimple_core.specs.Sealed.{IsAccepted}
 use Rattle.gimple_ir.specs.Size.{size_of_function, size_of_program}
@@ -91,8 +91,8 @@ foldable p n f t own accepted globals size w =
 
 -- ---- what its folder keeps
 
-abbrev KnowsIn : List StructDef → List Global → Type 0
-KnowsIn structs globals = (name : List ℕ) (g : Global) → find (λ g. same_name g.decl.name name) globals ≡ Some g → HasLayout structs g.decl
+abbrev AreSmall : List StructDef → List Global → Type 0
+AreSmall structs globals = (name : List ℕ) (g : Global) → find (λ g. same_name g.decl.name name) globals ≡ Some g → (layout_of structs g.decl).size ≤ 2 ^ 24
 
 module _ (s : Folder) (p : Program) (n : ℕ) (f : Function) (t : Found) (h : IsFolderOf s p f t) (g : IsFoldable p n f t) where
   law : IsLawful t.limits.ends
@@ -104,13 +104,14 @@ module _ (s : Folder) (p : Program) (n : ℕ) (f : Function) (t : Found) (h : Is
   ready : IsReady s.scene
   ready = record {
     few = subst (λ (gs : List Global). length gs < 2 ^ 32) (sym h.globals) g.globals;
-    layouts = subst (λ (gs : List Global). KnowsIn s.scene.program.now.structs gs) (sym h.globals) (subst (λ (q : Program). KnowsIn q.structs p.globals) (sym h.program) (global_layout p g.accepted));
+    small = subst (λ (gs : List Global). AreSmall s.scene.structs.now gs) (sym h.globals) (subst (λ (ss : List StructDef). AreSmall ss p.globals) (sym h.structs) (λ name x e. (global_layout p g.accepted name x e).size));
     loads = λ k i. subst (λ loads. IfSome (given_load loads s.scene.loads.now.function k i) (FitsWith s.scene.limits.now.size s.scene.limits.now.ends)) (sym h.loads) tt;
   }
 
   pub is_folder : IsFolder s
   is_folder = record {
     tables = h.tables ∙ sym h.program;
+    structs = h.structs ∙ ap (λ (q : Program). q.structs) (sym h.program);
     globals = h.globals ∙ ap (λ (q : Program). q.globals) (sym h.program);
     locals = h.locals ∙ ap (λ (x : Function). x.locals) (sym h.function);
     registers = registers_are ∙ ap (λ (x : Function). x.params ++ x.registers) (sym h.function);
@@ -150,7 +151,7 @@ module _ (s : Folder) (p : Program) (n : ℕ) (f : Function) (t : Found) (h : Is
     env = env_of (h.program i) (h.function i);
     names = functions_by_name (h.program i).functions;
     body = record {
-      structs = (h.program i).structs;
+      structs = h.structs i;
       globals = h.globals i;
       locals = h.locals i;
       registers = registers_are i;

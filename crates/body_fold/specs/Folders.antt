@@ -24,9 +24,10 @@ pub record Means (globals : List Global) (locals : List Decl) (k : ℕ) (g : Glo
 abbrev pub NamesMean : List Global → List Decl → Type 0
 NamesMean globals locals = (k : ℕ) (g : Global) → slice_get globals k ≡ Some g → Means globals locals k g
 
--- the scene is that of the function, the tables are the program's, whose globals have numbers and layouts, and their names mean them
+-- the scene is that of the function, the tables are the program's, whose globals have numbers, and their names mean them
 pub record IsFolder (s : Folder) : Type 0 where
   pub tables : s.tables.now.program ≡ s.scene.program.now
+  pub structs : s.scene.structs.now ≡ s.scene.program.now.structs
   pub globals : s.scene.globals.now ≡ s.scene.program.now.globals
   pub locals : s.scene.locals.now ≡ s.function.now.locals
   pub registers : s.scene.registers.now ≡ s.function.now.params ++ s.function.now.registers

@@ -14,6 +14,7 @@ use Rattle.body_fold.specs.declared.folder.Folder.{Folder}
 pub record IsFolderOf (s : Folder) (p : Program) (f : Function) (t : Found) : Type 0 where
   pub program : s.scene.program.now ≡ p
   pub tables : s.tables.now.program ≡ p
+  pub structs : s.scene.structs.now ≡ p.structs
   pub globals : s.scene.globals.now ≡ p.globals
   pub function : s.function.now ≡ f
   pub locals : s.scene.locals.now ≡ f.locals

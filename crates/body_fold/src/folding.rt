@@ -29,6 +29,7 @@ fn folder_of<'a>(
     Folder {
         scene: Scene {
             program: tables.program(),
+            structs: tables.structs(),
             globals: tables.globals(),
             locals,
             registers: values.registers(),

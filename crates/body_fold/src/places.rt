@@ -1,7 +1,7 @@
 //! Places by the variables to which their bases are known to point.
 
 ghost use Rattle.std.specs.Prelude.{◌≡◌, ◌+ℤ◌, ◌&&◌, IfOk, IsTrue, Some, slice_get};
-ghost use Rattle.gimple_core.specs.Layout.{layout_of, HasLayout};
+ghost use Rattle.gimple_core.specs.Layout.{layout_of};
 ghost use Rattle.gimple_core.specs.Operators.{in_scalar, wrapped};
 ghost use Rattle.gimple_core.specs.State.{offset_in};
 ghost use Rattle.gimple_core.specs.Statements.{has_slot};
@@ -11,10 +11,9 @@ ghost use Rattle.body_fold.specs.Folders.{folding_in, IsFolder};
 ghost use Rattle.body_fold.specs.Putting.{is_store, access_check};
 
 use crate::folder::Folder;
-use body_values::{is_slot, offset_of};
+use body_values::offset_of;
 use gimple_core::{
-    Base, Constant, Exact, Global as Variable, LayoutSlot, OutOfMemory, Place, Scalar, Text,
-    layout_of, wrap,
+    Base, Constant, Exact, Global as Variable, OutOfMemory, Place, Scalar, Text, wrap,
 };
 use value_domain::AbsVal;
 
@@ -54,21 +53,13 @@ fn place_in(variable: &Text, start: i64, offset: i128) -> Result<Place, OutOfMem
     })
 }
 
-/// Whether a slot of a place and scalar is among the slots.
-fn has_slot(slots: &[LayoutSlot], place: &Place, scalar: Scalar) -> bool
-    ensures { result ≡ has_slot slots.now place.now.offset scalar }
-{
-    slots.iter().any(|slot| is_slot(slot, place, scalar))
-}
-
 impl<'a> Folder<'a> {
     /// Whether a global has a slot at a place.
-    fn slot_in(&self, global: &Variable, scalar: Scalar, place: &Place) -> Result<bool, OutOfMemory>
-        requires layout { HasLayout self.now.scene.program.now.structs global.now.decl }
-        ensures { IfOk result (λ b. b ≡ has_slot (layout_of self.now.scene.program.now.structs global.now.decl).slots place.now.offset scalar) }
+    fn slot_in(&self, global: &'a Variable, scalar: Scalar, place: &Place) -> bool
+        ensures { result ≡ has_slot (layout_of self.now.scene.structs.now global.now.decl).slots place.now.offset scalar }
     {
-        let layout = layout_of(self.scene.alloc, self.scene.program, &global.decl)?;
-        Ok(has_slot(layout.slots.as_slice(), place, scalar))
+        let structs = self.scene.structs;
+        structs.has_slot(&global.decl, place.offset, scalar)
     }
 
     /// Whether a place in a global passes the check of an access.
@@ -77,17 +68,17 @@ impl<'a> Folder<'a> {
         access: Access,
         scalar: Scalar,
         number: u32,
-        global: &Variable,
+        global: &'a Variable,
         place: &Place,
-    ) -> Result<bool, OutOfMemory>
+    ) -> bool
         requires folder { IsFolder self.now }
         requires there { slice_get self.now.scene.globals.now number ≡ Some global.now }
         requires base { place.now.base ≡ Base.Variable global.now.decl.name }
         requires fits { IsTrue (in_scalar Scalar.I64 place.now.offset) }
-        ensures { IfOk result (λ b. b ≡ passes (access_check (folding_in self.now).env access scalar place.now)) }
+        ensures { result ≡ passes (access_check (folding_in self.now).env access scalar place.now) }
     {
         if is_refused(access, global) {
-            return Ok(false);
+            return false;
         }
         self.slot_in(global, scalar, place)
     }
@@ -108,7 +99,7 @@ impl<'a> Folder<'a> {
             None => place.copy(),
             Some(global) => {
                 let moved = place_in(&global.decl.name, start, place.offset)?;
-                if self.admits_place(access, scalar, number, global, &moved)? {
+                if self.admits_place(access, scalar, number, global, &moved) {
                     return Ok(moved);
                 }
                 place.copy()

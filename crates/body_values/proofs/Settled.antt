@@ -13,7 +13,7 @@ use Rattle.gimple_ir.specs.declared.declarations.StructDef.{StructDef}
 use Rattle.gimple_ir.specs.declared.block.Block.{Block}
 use Rattle.gimple_ir.specs.declared.program.Function.{Function}
 use Rattle.gimple_ir.specs.declared.program.Program.{Program}
-use Rattle.gimple_core.specs.Layout.{HasLayout}
+use Rattle.gimple_core.specs.Layout.{layout_of}
 use Rattle.gimple_core.specs.Names.{same_name}
 use Rattle.gimple_core.specs.Sealed.{IsAccepted}
 use Rattle.gimple_ir.specs.Size.{size_of_block, size_of_function, size_of_program, branches_of_function}
@@ -50,14 +50,15 @@ are_loads : (most : ℕ) (ts : List ℤ) (loads : List LoadFact) → Each (λ x.
 are_loads most ts [] h = refl
 are_loads most ts (x ∷ loads) h = both (fits_by most ts x.value) (loads_by most ts loads) (is_fitting most ts x.value h.0) (are_loads most ts loads h.1)
 
-abbrev KnowsIn : List StructDef → List Global → Type 0
-KnowsIn structs globals = (name : List ℕ) (g : Global) → find (λ g. same_name g.decl.name name) globals ≡ Some g → HasLayout structs g.decl
+abbrev AreSmall : List StructDef → List Global → Type 0
+AreSmall structs globals = (name : List ℕ) (g : Global) → find (λ g. same_name g.decl.name name) globals ≡ Some g → (layout_of structs g.decl).size ≤ 2 ^ 24
 
 -- a scene of the function's parts
-pub scene_is : (s : Scene) (p : Program) (n : ℕ) (f : Function) (facts : Facts) (limits : Limits) (globals : List Global) (locals slots : List Decl) (rs : List Register) (loads : GivenLoads) (given : List LoadFact) → IsSceneBy s p globals locals rs loads limits →
-    globals ≡ p.globals → locals ≡ slots → slots ≡ f.locals → rs ≡ f.params ++ f.registers → loads ≡ record { facts = given; function = n } → given ≡ facts.loads → IsSceneOf s p n f facts limits
-scene_is s p n f facts limits globals locals slots rs loads given h a b c d e g = record {
+pub scene_is : (s : Scene) (p : Program) (n : ℕ) (f : Function) (facts : Facts) (limits : Limits) (structs : List StructDef) (globals : List Global) (locals slots : List Decl) (rs : List Register) (loads : GivenLoads) (given : List LoadFact) → IsSceneBy s p structs globals locals rs loads limits →
+    structs ≡ p.structs → globals ≡ p.globals → locals ≡ slots → slots ≡ f.locals → rs ≡ f.params ++ f.registers → loads ≡ record { facts = given; function = n } → given ≡ facts.loads → IsSceneOf s p n f facts limits
+scene_is s p n f facts limits structs globals locals slots rs loads given h z a b c d e g = record {
   program = h.program;
+  structs = h.known ∙ z;
   globals = h.named ∙ a;
   locals = h.own ∙ (b ∙ c);
   registers = h.registers ∙ d;
@@ -70,7 +71,7 @@ carried_of s p n f facts limits h g =
     let loads : loads_by s.limits.now.size s.limits.now.ends s.loads.now.facts ≡ loads_by limits.size limits.ends facts.loads = λ i. loads_by (h.thresholds i).size (h.thresholds i).ends (h.loads i).facts in
     record {
       few = subst (λ (gs : List Global). length gs < 2 ^ 32) (sym h.globals) g.globals;
-      layouts = subst (λ (gs : List Global). KnowsIn s.program.now.structs gs) (sym h.globals) (subst (λ (q : Program). KnowsIn q.structs p.globals) (sym h.program) (global_layout p g.accepted));
+      small = subst (λ (gs : List Global). AreSmall s.structs.now gs) (sym h.globals) (subst (λ (ss : List StructDef). AreSmall ss p.globals) (sym h.structs) (λ name x e. (global_layout p g.accepted name x e).size));
       ends = ap (λ (l : Limits). l.ends) h.thresholds ∙ (g.ends ∙ ap thresholds_list (sym h.program));
       loads = loads ∙ are_loads limits.size limits.ends facts.loads g.fit.loads;
     }
@@ -179,7 +180,7 @@ row_at_point B bs xs e k i =
 
 body_is : (s : Scene) (p : Program) (n : ℕ) (f : Function) (facts : Facts) (limits : Limits) → IsSceneOf s p n f facts limits → body_in s ≡ body_of p n f facts limits.size limits.ends
 body_is s p n f facts limits h = λ i. record {
-  structs = (h.program i).structs;
+  structs = h.structs i;
   globals = h.globals i;
   locals = h.locals i;
   registers = h.registers i;

@@ -46,23 +46,6 @@ set_past [] n v h = refl
 set_past (x ∷ xs) zero v h = absurd (omega (arith, h))
 set_past (x ∷ xs) (suc n) v h = ap (λ ys. x ∷ ys) (set_past xs n v (omega (arith, h)))
 
--- ---- slots
-
-pub slot_below : (z : ℤ) (scalar : Scalar) (slot : LayoutSlot) → z <ℤ pos 0 → is_slot_at z scalar slot ≡ false
-slot_below (pos n) scalar slot h = absurd (omega (arith, ints, h))
-slot_below (negsuc n) scalar slot h = refl
-
-pub slot_is : (z : ℤ) (scalar : Scalar) (slot : LayoutSlot) (b : Bool) → pos 0 ≤ℤ z → (b ≡ true → pos slot.offset ≡ z) → (pos slot.offset ≡ z → b ≡ true) → (b && same_scalar slot.scalar scalar) ≡ is_slot_at z scalar slot
-slot_is (pos n) scalar slot b h f g = ap (λ c. c && same_scalar slot.scalar scalar) (by b f g)
-  where
-    by : (b : Bool) → (b ≡ true → pos slot.offset ≡ pos n) → (pos slot.offset ≡ pos n → b ≡ true) → b ≡ (slot.offset == n)
-    by true f g = let e : pos slot.offset ≡ pos n = f refl in let m : slot.offset ≡ n = omega (arith, ints, e) in sym (eq-eqb slot.offset n m)
-    by false f g = elim (cases_Bool (slot.offset == n)) [
-      | inl y ↦ let m : slot.offset ≡ n = eqb-true slot.offset n y in let e : false ≡ true = g (ap pos m) in cc
-      | inr y ↦ sym y
-    ]
-slot_is (negsuc n) scalar slot b h f g = absurd (omega (arith, ints, h))
-
 -- ---- items
 
 item_by : (B : Body) (scalar : Scalar) (offset : ℤ) (name : List ℕ) (b : Bool) → b ≡ false → (o : Option Global) → find (λ g. same_name g.decl.name name) B.globals ≡ o →
@@ -89,16 +72,12 @@ changed_fit s k i x row other false law ready f e = tt
 
 -- ---- slots of read-only variables
 
-pub slot_none : (B : Body) (scalar : Scalar) (offset : ℤ) (g : Global) (ls : List LayoutSlot) → g.constant ≡ true → ls ≡ (layout_of B.structs g.decl).slots → slot_place ls offset scalar ≡ None → None ≡ constant_slot B scalar offset (Some g)
-slot_none B scalar offset g ls c l e =
-    let f : slot_place (layout_of B.structs g.decl).slots offset scalar ≡ None = ap (λ ys. slot_place ys offset scalar) (sym l) ∙ e in
-    λ i. cond (sym c i) (slot_value B scalar g (sym f i)) None
+pub slot_none : (B : Body) (scalar : Scalar) (offset : ℤ) (g : Global) → g.constant ≡ true → slot_place (layout_of B.structs g.decl).slots offset scalar ≡ None → None ≡ constant_slot B scalar offset (Some g)
+slot_none B scalar offset g c e = λ i. cond (sym c i) (slot_value B scalar g (sym e i)) None
 
-pub slot_some : (B : Body) (scalar : Scalar) (offset : ℤ) (g : Global) (ls : List LayoutSlot) (n : ℕ) (v : AbsVal) → g.constant ≡ true → ls ≡ (layout_of B.structs g.decl).slots → slot_place ls offset scalar ≡ Some n →
+pub slot_some : (B : Body) (scalar : Scalar) (offset : ℤ) (g : Global) (n : ℕ) (v : AbsVal) → g.constant ≡ true → slot_place (layout_of B.structs g.decl).slots offset scalar ≡ Some n →
     v ≡ exactly_of scalar B.most B.ends (item_constant B.globals scalar (slice_get g.items n)) → Some v ≡ constant_slot B scalar offset (Some g)
-slot_some B scalar offset g ls n v c l e h =
-    let f : slot_place (layout_of B.structs g.decl).slots offset scalar ≡ Some n = ap (λ ys. slot_place ys offset scalar) (sym l) ∙ e in
-    ap (λ u. Some u) h ∙ (λ i. cond (sym c i) (slot_value B scalar g (sym f i)) None)
+slot_some B scalar offset g n v c e h = ap (λ u. Some u) h ∙ (λ i. cond (sym c i) (slot_value B scalar g (sym e i)) None)
 
 -- the scalar of a register that was found by its name
 pub scalar_found : (rs : List Register) (name : List ℕ) (r : Option Register) → r ≡ find (λ r. same_name r.name name) rs → scalar_or r ≡ register_scalar rs name

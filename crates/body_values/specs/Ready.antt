@@ -16,7 +16,7 @@ use Rattle.body_values.specs.declared.scene.Scene.{Scene}
 use Rattle.body_values.specs.Flow.{equations_of}
 use Rattle.body_values.specs.System.{given_fits, flow_laws}
 use Rattle.body_values.specs.Fitting.{fits_by, fits_is, file_by, file_is}
-use Rattle.body_values.specs.Scenes.{body_in, KnowsLayouts, IsReady}
+use Rattle.body_values.specs.Scenes.{body_in, HasSmallGlobals, IsReady}
 
 -- whether what is given of loads fits
 abbrev pub loads_by : ℕ → List ℤ → List LoadFact → Bool
@@ -27,10 +27,10 @@ loads_are : (most : ℕ) (ts : List ℤ) (loads : List LoadFact) → loads_by mo
 loads_are most ts [] h = tt
 loads_are most ts (x ∷ loads) h = (fits_is most ts x.value (and_left (fits_by most ts x.value) (loads_by most ts loads) h), loads_are most ts loads (and_right (fits_by most ts x.value) (loads_by most ts loads) h))
 
--- globals have numbers and layouts, the thresholds are the program's, and the facts of loads fit
+-- globals have numbers and are small, the thresholds are the program's, and the facts of loads fit
 pub record Carried (s : Scene) : Type 0 where
   pub few : length s.globals.now < 2 ^ 32
-  pub layouts : KnowsLayouts s
+  pub small : HasSmallGlobals s
   pub ends : s.limits.now.ends ≡ thresholds_list s.program.now
   pub loads : loads_by s.limits.now.size s.limits.now.ends s.loads.now.facts ≡ true
 
@@ -40,7 +40,7 @@ lawful_of s c = subst IsLawful (sym c.ends) (list_lawful s.program.now)
 pub ready_of : (s : Scene) → Carried s → IsReady s
 ready_of s c = record {
   few = c.few;
-  layouts = c.layouts;
+  small = c.small;
   loads = λ k i. given_fits (FitsWith s.limits.now.size s.limits.now.ends) s.loads.now.facts s.loads.now.function k i (loads_are s.limits.now.size s.limits.now.ends s.loads.now.facts c.loads);
 }
 

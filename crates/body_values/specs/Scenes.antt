@@ -1,8 +1,8 @@
 -- What the code has of a body.
-use Rattle.std.specs.Prelude.{◌≡◌, ℕ, ◌<◌, ◌^◌, List, length, Some, find}
+use Rattle.std.specs.Prelude.{◌≡◌, ℕ, ◌<◌, ◌≤◌, ◌^◌, List, length, Some, find}
 use Rattle.gimple_core.specs.Names.{same_name}
 use Rattle.gimple_ir.specs.declared.declarations.Global.{Global}
-use Rattle.gimple_core.specs.Layout.{HasLayout}
+use Rattle.gimple_core.specs.Layout.{layout_of}
 use Rattle.gimple_ir.specs.declared.scalar.Scalar.{Scalar}
 use Rattle.value_domain.specs.Holding.{IsOf}
 use Rattle.value_domain.specs.declared.abs_val.AbsVal.{AbsVal}
@@ -16,7 +16,7 @@ use Rattle.body_values.specs.Rising.{LoadsFit}
 
 abbrev pub body_in : Scene → Body
 body_in s = record {
-  structs = s.program.now.structs;
+  structs = s.structs.now;
   globals = s.globals.now;
   locals = s.locals.now;
   registers = s.registers.now;
@@ -34,14 +34,14 @@ pub record IsGoodIn (s : Scene) (scalar : Scalar) (a : AbsVal) : Type 0 where
   pub fits : FitsWith s.limits.now.size s.limits.now.ends a
   pub of : IsOf scalar a
 
--- each global has a layout
-abbrev pub KnowsLayouts : Scene → Type 0
-KnowsLayouts s = (name : List ℕ) (g : Global) → find (λ g. same_name g.decl.name name) s.globals.now ≡ Some g → HasLayout s.program.now.structs g.decl
+-- each global has at most 2^24 bytes
+abbrev pub HasSmallGlobals : Scene → Type 0
+HasSmallGlobals s = (name : List ℕ) (g : Global) → find (λ g. same_name g.decl.name name) s.globals.now ≡ Some g → (layout_of s.structs.now g.decl).size ≤ 2 ^ 24
 
--- globals have numbers and layouts, and the facts of loads fit
+-- globals have numbers and are small, and the facts of loads fit
 pub record IsReady (s : Scene) : Type 0 where
   pub few : length s.globals.now < 2 ^ 32
-  pub layouts : KnowsLayouts s
+  pub small : HasSmallGlobals s
   pub loads : LoadsFit (body_in s)
 
 abbrev pub FitsIn : Scene → Lifted (List AbsVal) → Type 0

@@ -4,6 +4,7 @@ use Rattle.gimple_ir.specs.declared.block.Block.{Block}
 use Rattle.gimple_ir.specs.declared.declarations.Decl.{Decl}
 use Rattle.gimple_ir.specs.declared.declarations.Global.{Global}
 use Rattle.gimple_ir.specs.declared.declarations.Register.{Register}
+use Rattle.gimple_ir.specs.declared.declarations.StructDef.{StructDef}
 use Rattle.gimple_ir.specs.declared.program.Function.{Function}
 use Rattle.gimple_ir.specs.declared.program.Program.{Program}
 use Rattle.gimple_core.specs.Sealed.{IsAccepted}
@@ -34,8 +35,9 @@ pub record IsGiven (p : Program) (f : Function) (facts : Facts) (limits : Limits
   pub fit : FactsFit f facts limits.size limits.ends
 
 -- a scene of these parts
-pub record IsSceneBy (s : Scene) (p : Program) (globals : List Global) (locals : List Decl) (rs : List Register) (loads : GivenLoads) (limits : Limits) : Type 0 where
+pub record IsSceneBy (s : Scene) (p : Program) (structs : List StructDef) (globals : List Global) (locals : List Decl) (rs : List Register) (loads : GivenLoads) (limits : Limits) : Type 0 where
   pub program : s.program.now ≡ p
+  pub known : s.structs.now ≡ structs
   pub named : s.globals.now ≡ globals
   pub own : s.locals.now ≡ locals
   pub registers : s.registers.now ≡ rs
@@ -45,6 +47,7 @@ pub record IsSceneBy (s : Scene) (p : Program) (globals : List Global) (locals :
 -- what the code has is that of the function
 pub record IsSceneOf (s : Scene) (p : Program) (n : ℕ) (f : Function) (facts : Facts) (limits : Limits) : Type 0 where
   pub program : s.program.now ≡ p
+  pub structs : s.structs.now ≡ p.structs
   pub globals : s.globals.now ≡ p.globals
   pub locals : s.locals.now ≡ f.locals
   pub registers : s.registers.now ≡ f.params ++ f.registers

@@ -1,6 +1,6 @@
 //! The values after a statement, and after the statements of a block.
 
-ghost use Rattle.std.specs.Prelude.{◌≡◌, ◌<◌, ◌^◌, ◌+◌, length, IfOk, OnOk, MatchBool, ⊤, slice_get, Option, Some, None};
+ghost use Rattle.std.specs.Prelude.{◌≡◌, ◌<◌, ◌≤◌, ◌^◌, ◌+◌, length, IfOk, OnOk, MatchBool, ⊤, slice_get, Option, Some, None};
 ghost use Rattle.std.specs.Option.{option_copied};
 ghost use Rattle.fix_engine.specs.declared.lifted.Lifted.{Lifted};
 ghost use Rattle.fix_engine.specs.declared.lifted.Lifted.TheVariants.{NotReached, Reached};
@@ -8,15 +8,13 @@ ghost use Rattle.value_domain.specs.Values.{is_none_val};
 ghost use Rattle.body_values.specs.Bodies.{register_scalar, put_value, brought_or, item_constant, slot_place, slot_value, constant_slot, item_value, load_value, target_of, result_value, is_abort, after_target, after_stmt, after_body};
 ghost use Rattle.body_values.specs.Flow.{given_load};
 ghost use Rattle.body_values.specs.Scenes.{body_in, Fit, IsGoodIn, IsReady};
-ghost use Rattle.gimple_core.specs.Layout.{HasLayout};
-ghost use Rattle.gimple_core.specs.Memory.{same_scalar};
-ghost use Rattle.gimple_core.specs.Statements.{is_slot_at};
+ghost use Rattle.gimple_core.specs.Layout.{layout_of};
 
 use crate::scene::{Scene, offset_of, pointer, scalar_of};
 use fix_engine::Rows;
 use gimple_core::{
-    Base, Constant, Global as Variable, LayoutSlot, Operand, OutOfMemory, Place, Point, Scalar,
-    Stmt, Text, layout_of, same_name,
+    Base, Constant, Global as Variable, Operand, OutOfMemory, Place, Point, Scalar, Stmt, Text,
+    same_name,
 };
 use value_domain::{AbsVal, exactly, into_scalar, top};
 
@@ -56,29 +54,6 @@ pub fn target(statement: &Stmt) -> Option<&Text>
         Stmt::Get { to } => Some(to),
         _ => None,
     }
-}
-
-fn same_scalar(left: Scalar, right: Scalar) -> bool
-    ensures { result ≡ same_scalar left right }
-{
-    left == right
-}
-
-#[tactic(auto, using(crate::proofs::Written::slot_is, crate::proofs::Written::slot_below))]
-/// Whether a slot is the one of a place, for a scalar.
-pub fn is_slot(slot: &LayoutSlot, place: &Place, scalar: Scalar) -> bool
-    ensures { result ≡ is_slot_at place.now.offset scalar slot.now }
-{
-    if place.offset < 0 {
-        return false;
-    }
-    i128::from(slot.offset) == place.offset && same_scalar(slot.scalar, scalar)
-}
-
-fn slot_number(slots: &[LayoutSlot], place: &Place, scalar: Scalar) -> Option<usize>
-    ensures { result ≡ slot_place slots.now place.now.offset scalar }
-{
-    slots.iter().position(|slot| is_slot(slot, place, scalar))
 }
 
 fn aborts(statement: &Stmt) -> bool
@@ -126,21 +101,29 @@ impl<'a> Scene<'a> {
         }
     }
 
+    /// The number of a variable's slot of a place and scalar.
+    fn slot_number(&self, scalar: Scalar, place: &Place, global: &'a Variable) -> Option<usize>
+        requires { (layout_of self.now.structs.now global.now.decl).size ≤ 2 ^ 24 }
+        ensures { result ≡ slot_place (layout_of self.now.structs.now global.now.decl).slots place.now.offset scalar }
+    {
+        let structs = self.structs;
+        structs.slot_number(&global.decl, place.offset, scalar)
+    }
+
     fn slot(
         &self,
         scalar: Scalar,
         place: &Place,
-        global: &Variable,
+        global: &'a Variable,
     ) -> Result<Option<AbsVal>, OutOfMemory>
         requires few { length self.now.globals.now < 2 ^ 32 }
-        requires layout { HasLayout self.now.program.now.structs global.now.decl }
+        requires small { (layout_of self.now.structs.now global.now.decl).size ≤ 2 ^ 24 }
         ensures { IfOk result (λ v. v ≡ constant_slot (body_in self.now) scalar place.now.offset (Some global.now)) }
     {
         if !global.constant {
             return Ok(None);
         }
-        let layout = layout_of(self.alloc, self.program, &global.decl)?;
-        match slot_number(layout.slots.as_slice(), place, scalar) {
+        match self.slot_number(scalar, place, global) {
             None => Ok(None),
             Some(number) => {
                 let constant = self.item_of(scalar, global.items.get(number));

@@ -23,7 +23,7 @@ mod values;
 pub use block_values::PointRow;
 pub use branches::Branch;
 pub use branching::{LabelledBlocks, branches_of, labels_of};
-pub use changes::{is_slot, target};
+pub use changes::target;
 pub use facts::{AbsVals, Facts, LoadFact, LoadFacts};
 pub use laws::{body_parts_cross, body_values_cross, values_found, values_hold};
 pub use load_table::LoadTable;

@@ -10,12 +10,14 @@ use gimple_core::{Checked, Function, OutOfMemory, Params, Program, Text};
 use name_tables::{NamedFunctions, NamedGlobals};
 use std::alloc::Global;
 use std::marker::Model;
+use struct_tables::Structs;
 use value_domain::{Thresholds, thresholds_of};
 
-/// A program with its globals and functions by name and its thresholds, made once for all of its functions.
+/// A program with its structs, its globals and functions by name and its thresholds, made once for all of its functions.
 #[derive(Drop)]
 pub struct ProgramTables<'a> {
     program: &'a Checked,
+    structs: Structs<'a>,
     globals: NamedGlobals<'a>,
     functions: NamedFunctions<'a>,
     limits: Thresholds,
@@ -28,7 +30,7 @@ impl<'a> Model for ProgramTables<'a> {
 
     ghost view = { λ t. record { program = t.program.now.program; size = t.limits.size } };
 
-    ghost invariant = { λ t. AreTables t.program.now.program t.globals t.functions t.limits.ends };
+    ghost invariant = { λ t. AreTables t.program.now.program t.structs t.globals t.functions t.limits.ends };
 }
 
 impl<'a> ProgramTables<'a> {
@@ -47,6 +49,7 @@ impl<'a> ProgramTables<'a> {
     }
 
     /// The tables of a program whose thresholds are known. Err is want of memory.
+    #[tactic(auto, using(struct_tables::proofs::AcceptedStructs::accepted_structs))]
     pub fn with(
         alloc: Global,
         program: &'a Checked,
@@ -56,10 +59,12 @@ impl<'a> ProgramTables<'a> {
         ensures { IfOk result (λ t. t ≡ record { program = program.now.program; size = limits.size }) }
     {
         let inside = program.program();
+        let structs = Structs::of(alloc, inside.structs.as_slice())?;
         let globals = NamedGlobals::new(alloc, inside.globals.as_slice())?;
         let functions = NamedFunctions::new(alloc, inside.functions.as_slice())?;
         Ok(ProgramTables {
             program,
+            structs,
             globals,
             functions,
             limits,
@@ -72,6 +77,13 @@ impl<'a> ProgramTables<'a> {
         ensures accepted { IsAccepted self.now.program }
     {
         self.program.program()
+    }
+
+    /// The program's structs, each with where its fields lie.
+    pub fn structs(&self) -> &Structs<'a>
+        ensures { result.now ≡ self.now.program.structs }
+    {
+        &self.structs
     }
 
     /// The program's globals, each found by its name.

@@ -11,13 +11,15 @@ use crate::load_table::LoadTable;
 use gimple_core::{Constant, Operand, OutOfMemory, Program, Scalar, Text, fits};
 use name_tables::{NamedGlobals, NamedLocals, RegisterTable};
 use std::alloc::Global;
+use struct_tables::Structs;
 use value_domain::{AbsVal, Thresholds, exactly, into_scalar, top};
 
-/// What the values in a body depend on: the program and its globals, the function's locals and registers with the formals
+/// What the values in a body depend on: the program, its structs and globals, the function's locals and registers with the formals
 /// first, the facts of its loads, and the thresholds.
 #[derive(Clone, Copy)]
 pub struct Scene<'a> {
     pub program: &'a Program,
+    pub structs: &'a Structs<'a>,
     pub globals: &'a NamedGlobals<'a>,
     pub locals: &'a NamedLocals<'a>,
     pub registers: &'a RegisterTable,

@@ -26,6 +26,7 @@ use gimple_core::{Block, Checked, Function, Listed, OutOfMemory, Params, Point, 
 use name_tables::{NamedGlobals, NamedLocals, RegisterTable};
 use std::alloc::Global;
 use std::marker::Model;
+use struct_tables::Structs;
 use value_domain::{AbsVal, Thresholds};
 
 /// The values of a function's registers at each of its points, and the thresholds that they were made with. They take
@@ -193,6 +194,7 @@ fn rows_of<'a, S: Solver>(
 
 fn scene_of<'a>(
     program: &'a Program,
+    structs: &'a Structs<'a>,
     globals: &'a NamedGlobals<'a>,
     locals: &'a NamedLocals<'a>,
     registers: &'a RegisterTable,
@@ -200,10 +202,11 @@ fn scene_of<'a>(
     limits: &'a Thresholds,
     alloc: Global,
 ) -> Scene<'a>
-    ensures { IsSceneBy result program.now globals.now locals.now registers.now loads.now limits.now }
+    ensures { IsSceneBy result program.now structs.now globals.now locals.now registers.now loads.now limits.now }
 {
     Scene {
         program,
+        structs,
         globals,
         locals,
         registers,
@@ -216,6 +219,7 @@ fn scene_of<'a>(
 fn values_with<S: Solver>(
     alloc: Global,
     program: &Program,
+    structs: &Structs,
     globals: &NamedGlobals,
     number: u32,
     function: &Function,
@@ -224,6 +228,7 @@ fn values_with<S: Solver>(
     solver: &mut S,
 ) -> Result<BodyValues, OutOfMemory>
     requires given { IsGiven program.now function.now facts.now limits }
+    requires known { structs.now ≡ program.now.structs }
     requires named { globals.now ≡ program.now.globals }
     ensures { IfOk result (AreFound program.now number function.now facts.now limits) }
 {
@@ -232,7 +237,7 @@ fn values_with<S: Solver>(
     let loads = LoadTable::new(alloc, facts.loads.as_slice(), number)?;
     let entry = entry_row(alloc, function, facts.formals.as_slice(), &limits)?;
     let scene = scene_of(
-        program, globals, &locals, &registers, &loads, &limits, alloc,
+        program, structs, globals, &locals, &registers, &loads, &limits, alloc,
     );
     let rows = rows_of(scene, function.blocks.as_slice(), &entry, solver)?;
     Ok(BodyValues {
@@ -263,10 +268,11 @@ pub fn values_in<S: Solver>(
 {
     let thresholds = tables.thresholds()?;
     let program = tables.program();
+    let structs = tables.structs();
     let globals = tables.globals();
     let of = &program.functions.as_slice()[function as usize];
     let values = values_with(
-        alloc, program, globals, function, of, facts, thresholds, solver,
+        alloc, program, structs, globals, function, of, facts, thresholds, solver,
     )?;
     Ok(values)
 }

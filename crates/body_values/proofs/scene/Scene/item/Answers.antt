@@ -5,8 +5,8 @@ use Rattle.body_values.specs.Scenes.{body_in}
 use Rattle.body_values.proofs.Written.{item_is}
 use Rattle.body_values.proofs.scene.Scene.item.Goals as goal
 
-pub slot-requires-clause-layout : goal.slot-requires-clause-layout
-slot-requires-clause-layout c = c.requires.ready.layouts c.in-Variable.name c.in-Some.global.now (search rules)
+pub slot-requires-clause-small : goal.slot-requires-clause-small
+slot-requires-clause-small c = c.requires.ready.small c.in-Variable.name c.in-Some.global.now (search rules)
 
 pub returns-in-Some : goal.returns-in-Some
 returns-in-Some c =
