@@ -23,8 +23,8 @@ pub struct Product {
     pub summary: Text,
 }
 
-/// Runs the passes that are on, in their order. The dump of the call graph is made where it is asked for alone, since its
-/// time grows faster than the program. The answer is want of memory alone.
+/// Runs the passes that are on, in their order. The dump of the call graph is made where it is asked for alone, since it
+/// can take a third of the time of all the rest. Err is want of memory.
 #[tactic(auto, using(crate::proofs::GraphLaws::few_functions))]
 pub fn pipeline(
     alloc: Global,

@@ -1,6 +1,7 @@
 //! Dumps and summaries beside the output.
 
 use crate::run::words_of;
+use crate::sources::{MINIMAL, UNREACHED};
 use ipa_driver::{MemoryShelf, optimise_alone};
 use std::alloc::{AllocError, Global};
 use std::test::Fail as TestFail;
@@ -22,29 +23,6 @@ i32 main () {
     b = f (7);
     a = a + b;
     putint (a);
-    return 0;
-}
-";
-
-const UNREACHED: &str = "gimple 1;
-void h () {
-  <bb 2>:
-    k ();
-    return;
-}
-void k () {
-  <bb 2>:
-    return;
-}
-i32 main () {
-  <bb 2>:
-    return 0;
-}
-";
-
-const MINIMAL: &str = "gimple 1;
-i32 main () {
-  <bb 2>:
     return 0;
 }
 ";

@@ -1,77 +1,18 @@
 //! Programs of functions, jumps, sums and prints, and shelves that fail.
 
 use crate::run::{Run, comes_out};
+use crate::sources::{ARGUMENT_COUNT, COUNTDOWN, MINIMAL, UNREACHED};
 use ipa_driver::Fail;
 use std::test::Fail as TestFail;
 
 const LINE: &str = "a.g -o b.g";
-
-const MINIMAL: &str = "gimple 1;
-i32 main () {
-  <bb 2>:
-    return 0;
-}
-";
-
-const UNREACHED: &str = "gimple 1;
-void h () {
-  <bb 2>:
-    k ();
-    return;
-}
-void k () {
-  <bb 2>:
-    return;
-}
-i32 main () {
-  <bb 2>:
-    return 0;
-}
-";
-
-const ARGUMENT_COUNT: &str = "gimple 1;
-void f (i32 n) {
-  <bb 2>:
-    return;
-}
-i32 main () {
-  <bb 2>:
-    f ();
-    return 0;
-}
-";
-
-const LOOP: &str = "gimple 1;
-i32 twice (i32 n) {
-  i32 sum;
-  <bb 2>:
-    sum = n + n;
-    return sum;
-}
-i32 main () {
-  i32 left;
-  i32 seen;
-  <bb 2>:
-    left = 3;
-    goto <bb 3>;
-  <bb 3>:
-    if (left > 0) goto <bb 4>; else goto <bb 5>;
-  <bb 4>:
-    seen = twice (left);
-    putint (seen);
-    left = left - 1;
-    goto <bb 3>;
-  <bb 5>:
-    return -1;
-}
-";
 
 #[test]
 fn programs(rt: HostRuntime) -> Result<(), TestFail> {
     let runs = [
         (MINIMAL, 0, Some(MINIMAL), ""),
         (UNREACHED, 0, Some(MINIMAL), ""),
-        (LOOP, 0, Some(LOOP), ""),
+        (COUNTDOWN, 0, Some(COUNTDOWN), ""),
         (
             ARGUMENT_COUNT,
             1,

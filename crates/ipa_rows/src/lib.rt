@@ -12,6 +12,8 @@ mod run;
 #[cfg(test)]
 mod running;
 #[cfg(test)]
+mod sources;
+#[cfg(test)]
 mod text_faults;
 #[cfg(test)]
 mod usage_rows;

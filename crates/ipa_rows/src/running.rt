@@ -1,52 +1,9 @@
 //! Runs of programs by `gimple-run`.
 
 use crate::run::{Run, runs_out};
+use crate::sources::{ARGUMENT_COUNT, COUNTDOWN, MINIMAL};
 use ipa_driver::Fail;
 use std::test::Fail as TestFail;
-
-const MINIMAL: &str = "gimple 1;
-i32 main () {
-  <bb 2>:
-    return 0;
-}
-";
-
-const ARGUMENT_COUNT: &str = "gimple 1;
-void f (i32 n) {
-  <bb 2>:
-    return;
-}
-i32 main () {
-  <bb 2>:
-    f ();
-    return 0;
-}
-";
-
-const COUNTDOWN: &str = "gimple 1;
-i32 twice (i32 n) {
-  i32 sum;
-  <bb 2>:
-    sum = n + n;
-    return sum;
-}
-i32 main () {
-  i32 left;
-  i32 seen;
-  <bb 2>:
-    left = 2;
-    goto <bb 3>;
-  <bb 3>:
-    if (left > 0) goto <bb 4>; else goto <bb 5>;
-  <bb 4>:
-    seen = twice (left);
-    putint (seen);
-    left = left - 1;
-    goto <bb 3>;
-  <bb 5>:
-    return -1;
-}
-";
 
 const OVERFLOW: &str = "gimple 1;
 i32 main () {

@@ -1,16 +1,10 @@
 //! Structs, globals, locals, memory and every end, and each type fault with its message.
 
 use crate::run::{Run, comes_out, is_refused};
+use crate::sources::MINIMAL;
 use std::test::Fail as TestFail;
 
 const LINE: &str = "a.g -o b.g";
-
-const MINIMAL: &str = "gimple 1;
-i32 main () {
-  <bb 2>:
-    return 0;
-}
-";
 
 const LOOSE: &str = "gimple 01; // c
 i32 main(){<bb 02>:return -0;}

@@ -1,20 +1,14 @@
 //! Wrong expectations: each question about a run has the answer no where one thing is not as it came.
 
 use crate::run::{Run, comes_out, is_accepted, is_refused, runs_out};
+use crate::sources::MINIMAL;
 use std::test::Fail as TestFail;
-
-const SOURCE: &str = "gimple 1;
-i32 main () {
-  <bb 2>:
-    return 0;
-}
-";
 
 /// A run on the source, without failing calls.
 fn run_of(line: &'static str, status: u8, stored: Option<&'static str>, told: &'static str) -> Run {
     Run {
         line,
-        source: Some(SOURCE),
+        source: Some(MINIMAL),
         fails: &[],
         status,
         stored,
@@ -25,12 +19,12 @@ fn run_of(line: &'static str, status: u8, stored: Option<&'static str>, told: &'
 #[test]
 fn optimised(rt: HostRuntime) -> Result<(), TestFail> {
     let line = "a.g -o b.g";
-    assert!(rt; comes_out(rt.alloc(), &run_of(line, 0, Some(SOURCE), ""))?);
+    assert!(rt; comes_out(rt.alloc(), &run_of(line, 0, Some(MINIMAL), ""))?);
     let wrong = [
-        (1, Some(SOURCE), ""),
+        (1, Some(MINIMAL), ""),
         (0, None, ""),
         (0, Some("gimple 1;\n"), ""),
-        (0, Some(SOURCE), "a.g: error: cannot read\n"),
+        (0, Some(MINIMAL), "a.g: error: cannot read\n"),
     ];
     for (status, stored, told) in wrong {
         let run = run_of(line, status, stored, told);
@@ -60,9 +54,9 @@ fn verdicts(rt: HostRuntime) -> Result<(), TestFail> {
     let early = "a.g:1:1: error: early end\n";
     assert!(rt; is_refused(rt.alloc(), b"", early)?);
     assert!(rt; !is_refused(rt.alloc(), b"", "a.g:1:1: error: bad token\n")?);
-    assert!(rt; !is_refused(rt.alloc(), SOURCE.as_bytes(), early)?);
-    assert!(rt; !is_refused(rt.alloc(), SOURCE.as_bytes(), "")?);
-    assert!(rt; is_accepted(rt.alloc(), SOURCE.as_bytes())?);
+    assert!(rt; !is_refused(rt.alloc(), MINIMAL.as_bytes(), early)?);
+    assert!(rt; !is_refused(rt.alloc(), MINIMAL.as_bytes(), "")?);
+    assert!(rt; is_accepted(rt.alloc(), MINIMAL.as_bytes())?);
     assert!(rt; !is_accepted(rt.alloc(), b"")?);
     Ok(())
 }

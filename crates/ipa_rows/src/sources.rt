@@ -1,0 +1,66 @@
+//! Sources of several rows.
+
+/// The least program, as it is printed.
+pub const MINIMAL: &str = "gimple 1;
+i32 main () {
+  <bb 2>:
+    return 0;
+}
+";
+
+/// The least program with two functions that it does not reach, one of which calls the other.
+pub const UNREACHED: &str = "gimple 1;
+void h () {
+  <bb 2>:
+    k ();
+    return;
+}
+void k () {
+  <bb 2>:
+    return;
+}
+i32 main () {
+  <bb 2>:
+    return 0;
+}
+";
+
+/// A call of a function without its argument.
+pub const ARGUMENT_COUNT: &str = "gimple 1;
+void f (i32 n) {
+  <bb 2>:
+    return;
+}
+i32 main () {
+  <bb 2>:
+    f ();
+    return 0;
+}
+";
+
+/// A loop that prints twice of 2 and twice of 1 and ends with -1: each turn makes two
+/// jumps, a call and a return.
+pub const COUNTDOWN: &str = "gimple 1;
+i32 twice (i32 n) {
+  i32 sum;
+  <bb 2>:
+    sum = n + n;
+    return sum;
+}
+i32 main () {
+  i32 left;
+  i32 seen;
+  <bb 2>:
+    left = 2;
+    goto <bb 3>;
+  <bb 3>:
+    if (left > 0) goto <bb 4>; else goto <bb 5>;
+  <bb 4>:
+    seen = twice (left);
+    putint (seen);
+    left = left - 1;
+    goto <bb 3>;
+  <bb 5>:
+    return -1;
+}
+";
