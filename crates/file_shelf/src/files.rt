@@ -5,8 +5,6 @@ ghost use Rattle.file_shelf.specs.Files.{ReadsWhole};
 
 use shelf::{Fetched, Shelf, Stored, Text};
 use std::io::{self, Read, Write};
-use std::os::fd::AsFd;
-use std::process::ChildStdin;
 use std::{fs, str};
 
 /// Files by name; the name `-` is standard input for a fetch and standard output for a store. Messages go to the
@@ -86,15 +84,6 @@ fn write_whole<W: Write>(writer: &mut W, bytes: &[u8]) -> bool {
     writer.flush().is_ok()
 }
 
-/// Writes all bytes to an open file or stream, and says whether all were taken. Where nobody reads what is written this
-/// fails, and raises no signal: of std's writers that to a child's input alone is so, and it is made of any descriptor.
-fn write_open<F: AsFd>(file: &F, bytes: &[u8]) -> bool {
-    match file.as_fd().try_clone_to_owned() {
-        Ok(copy) => write_whole(&mut ChildStdin::from(copy), bytes),
-        Err(_) => false,
-    }
-}
-
 impl<'a> FileShelf<'a> {
     /// A shelf whose counts are 0.
     pub fn new(rt: &'a HostRuntime) -> Self
@@ -138,13 +127,13 @@ fn read_name(rt: &HostRuntime, name: &[u8], limit: u64, into: &mut Text) -> Take
 /// Writes a name's bytes, and says whether all were taken.
 fn write_name(rt: &HostRuntime, name: &[u8], bytes: &[u8]) -> bool {
     if name == "-".as_bytes() {
-        return write_open(&rt.stdout(), bytes);
+        return write_whole(&mut rt.stdout(), bytes);
     }
     let Ok(path) = str::from_utf8(name) else {
         return false;
     };
     match fs::create(rt, path) {
-        Ok(file) => write_open(&file, bytes),
+        Ok(mut file) => write_whole(&mut file, bytes),
         Err(_) => false,
     }
 }
@@ -188,7 +177,7 @@ impl<'a> Shelf for FileShelf<'a> {
     }
 
     fn tell(&mut self, bytes: &[u8]) {
-        if !write_open(&self.rt.stderr(), bytes) {
+        if !write_whole(&mut self.rt.stderr(), bytes) {
             self.tell_faults = self.tell_faults.saturating_add(1);
         }
     }
