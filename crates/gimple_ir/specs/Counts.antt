@@ -1,27 +1,23 @@
--- Programs whose parts can be counted.
-use Rattle.std.specs.Prelude.{◌<◌, ◌^◌, List, [], ◌∷◌, length}
+-- How many parts programs have.
+use Rattle.std.specs.Prelude.{ℕ, ◌<◌, ◌^◌, length}
 use Rattle.std.specs.List.{All}
 use Rattle.gimple_ir.specs.declared.declarations.StructDef.{StructDef}
 use Rattle.gimple_ir.specs.declared.program.Function.{Function}
 use Rattle.gimple_ir.specs.declared.program.Program.{Program}
-use Rattle.gimple_ir.specs.Size.{size_of_function, size_of_program, branches_of_function}
+use Rattle.gimple_ir.specs.Size.{size_of_program, branches_of_function}
 
--- each function has fewer than 2^32 statements
-abbrev pub AreShort : List Function → Type 0
-AreShort [] = Unit {0}
-AreShort (f ∷ fs) = (size_of_function f < 2 ^ 32) × AreShort fs
+-- There are fewer than n parts of each kind: structs, fields of a struct, globals, functions, statements and ends of the whole program,
+-- and formals, locals and branches of a function.
+pub record CountsWithin (n : ℕ) (p : Program) : Type 0 where
+  pub structs : length p.structs < n
+  pub fields : All (λ (s : StructDef). length s.fields < n) p.structs
+  pub globals : length p.globals < n
+  pub functions : length p.functions < n
+  pub size : size_of_program p < n
+  pub formals : All (λ (f : Function). length f.params < n) p.functions
+  pub locals : All (λ (f : Function). length f.locals < n) p.functions
+  pub branches : All (λ (f : Function). branches_of_function f < n) p.functions
 
--- each struct has fewer than 2^32 fields
-abbrev pub AreNarrow : List StructDef → Type 0
-AreNarrow [] = Unit {0}
-AreNarrow (s ∷ ss) = (length s.fields < 2 ^ 32) × AreNarrow ss
-
--- each list of the program has fewer than 2^32 items, its size is below 2^32, and each function has fewer than 2^32 locals and branches
-pub record IsCountable (p : Program) : Type 0 where
-  pub structs : length p.structs < 2 ^ 32
-  pub fields : AreNarrow p.structs
-  pub globals : length p.globals < 2 ^ 32
-  pub functions : length p.functions < 2 ^ 32
-  pub size : size_of_program p < 2 ^ 32
-  pub locals : All (λ f. length f.locals < 2 ^ 32) p.functions
-  pub branches : All (λ f. branches_of_function f < 2 ^ 32) p.functions
+-- parts that 32 bits can number
+abbrev pub IsCountable : Program → Type 0
+IsCountable p = CountsWithin (2 ^ 32) p

@@ -23,9 +23,11 @@ pub use operand::{Base, Items, Operand, Operands, Place};
 pub use options::{Params, Passes};
 pub use point::{Edge, Edges, Marks, Names, Numbers, Point, Points};
 pub use program::{Function, Functions, Program};
-pub use scalar::{Cmp, Op, Scalar};
-pub use statement::{Stmt, Stmts};
-pub use value::{Constant, Constants, Layout, LayoutSlot, Object, Outcome, Slots, TrapKind, Value};
+pub use scalar::{Cmp, Mode, Op, Scalar};
+pub use statement::{Signature, Stmt, Stmts};
+pub use value::{
+    Constant, Constants, FunctionName, Layout, LayoutSlot, Object, Outcome, Slots, TrapKind, Value,
+};
 
 /// Want of memory.
 pub type OutOfMemory = std::alloc::AllocError;

@@ -22,9 +22,10 @@ pub struct Function {
 /// The functions of a program in file order.
 pub type Functions = Listed<Function>;
 
-/// A whole program.
+/// A whole program. Its profile is 1, or 2 where functions may be addressed and called through registers.
 #[derive(Clone, Debug, Drop)]
 pub struct Program {
+    pub profile: u8,
     pub structs: StructDefs,
     pub globals: Globals,
     pub functions: Functions,
@@ -51,7 +52,8 @@ impl Exact for Program {
     }
 
     fn same(&self, other: &Program) -> bool {
-        self.structs.same(&other.structs)
+        self.profile == other.profile
+            && self.structs.same(&other.structs)
             && self.globals.same(&other.globals)
             && self.functions.same(&other.functions)
     }

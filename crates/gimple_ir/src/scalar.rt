@@ -19,6 +19,13 @@ pub enum Scalar {
     Ptr,
 }
 
+/// What signed arithmetic does where its result leaves the scalar: `+`, `-` and `*` trap, or they wrap into it.
+#[derive(Clone, Copy, Debug, PartialEq, Eq)]
+pub enum Mode {
+    Trap,
+    Wrap,
+}
+
 /// An arithmetic operator: `+ - * / % & | ^ << >>`.
 #[derive(Clone, Copy, Debug, PartialEq, Eq)]
 pub enum Op {

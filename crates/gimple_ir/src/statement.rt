@@ -3,11 +3,19 @@
 ghost use Rattle.std.specs.Prelude.{◌≡◌, ◌↔◌, IsTrue, IfOk};
 
 use crate::OutOfMemory;
+use crate::declarations::Scalars;
 use crate::listed::{Exact, Listed, Text};
 use crate::operand::{Operand, Operands, Place};
 use crate::scalar::{Cmp, Op, Scalar};
 
-/// A statement. Register names stand in `to`; `Get` is `getint`, `Put` is `putint`.
+/// What an indirect call says of its callee: the scalars of the formals, and the result. A result of None is `void`.
+#[derive(Clone, Debug, Drop)]
+pub struct Signature {
+    pub params: Scalars,
+    pub result: Option<Scalar>,
+}
+
+/// A statement. Register names stand in `to`, and as the `callee` of `Indirect`; `Get` is `getint`, `Put` is `putint`.
 #[derive(Clone, Debug, Drop)]
 pub enum Stmt {
     Copy {
@@ -46,6 +54,12 @@ pub enum Stmt {
         callee: Text,
         arguments: Operands,
     },
+    Indirect {
+        to: Option<Text>,
+        signature: Signature,
+        callee: Text,
+        arguments: Operands,
+    },
     Get {
         to: Text,
     },
@@ -57,6 +71,16 @@ pub enum Stmt {
 
 /// The statements of a block in order.
 pub type Stmts = Listed<Stmt>;
+
+impl Exact for Signature {
+    fn copy(&self) -> Result<Signature, OutOfMemory> {
+        self.clone()
+    }
+
+    fn same(&self, other: &Signature) -> bool {
+        self.params.same(&other.params) && self.result.same(&other.result)
+    }
+}
 
 impl Exact for Stmt {
     fn copy(&self) -> Result<Stmt, OutOfMemory> {
@@ -137,6 +161,20 @@ impl Exact for Stmt {
                     arguments: a,
                 },
             ) => to.same(t) && callee.same(c) && arguments.same(a),
+            (
+                Stmt::Indirect {
+                    to,
+                    signature,
+                    callee,
+                    arguments,
+                },
+                Stmt::Indirect {
+                    to: t,
+                    signature: s,
+                    callee: c,
+                    arguments: a,
+                },
+            ) => to.same(t) && signature.same(s) && callee.same(c) && arguments.same(a),
             _ => false,
         }
     }

@@ -5,6 +5,7 @@ ghost use Rattle.std.specs.Prelude.{◌≡◌, ◌↔◌, IsTrue, IfOk};
 use crate::OutOfMemory;
 use crate::listed::{Exact, Listed, Text};
 use crate::scalar::Scalar;
+use std::marker::Model;
 
 /// A variable that memory holds: the global of a number, or the local of a number in the frame of a serial.
 #[derive(Clone, Copy, Debug, PartialEq, Eq)]
@@ -13,12 +14,60 @@ pub enum Object {
     Local { serial: u64, number: u32 },
 }
 
-/// A value: an integer, null, or a pointer to an object with a byte offset.
-#[derive(Clone, Copy, Debug, PartialEq, Eq)]
-pub enum Value {
+/// The name of a function, as a value holds it: the bytes are those of the program that runs.
+#[derive(Debug, Drop)]
+pub struct FunctionName<'a> {
+    bytes: &'a [u8],
+}
+
+impl<'a> Model for FunctionName<'a> {
+    ghost use Rattle.std.specs.Prelude.{List, ℕ};
+
+    ghost Value = { List ℕ };
+
+    ghost view = { λ it. it.bytes.now };
+}
+
+impl<'a> FunctionName<'a> {
+    /// The name of these bytes.
+    pub fn new(bytes: &'a [u8]) -> FunctionName<'a>
+        ensures { result ≡ bytes.now }
+    {
+        FunctionName { bytes }
+    }
+
+    /// The bytes of the name.
+    pub fn as_slice(&self) -> &'a [u8]
+        ensures { result.now ≡ self.now }
+    {
+        self.bytes
+    }
+}
+
+/// A value: an integer, null, a pointer to an object with a byte offset, or a function.
+#[derive(Debug, Drop)]
+pub enum Value<'a> {
     Int(i128),
     Null,
     At { object: Object, offset: i64 },
+    Code(FunctionName<'a>),
+}
+
+impl<'a> Value<'a> {
+    /// The same value once more. Takes no memory.
+    pub fn again(&self) -> Value<'a>
+        ensures { result ≡ self.now }
+    {
+        match self {
+            Value::Int(number) => Value::Int(*number),
+            Value::Null => Value::Null,
+            Value::At { object, offset } => Value::At {
+                object: *object,
+                offset: *offset,
+            },
+            Value::Code(name) => Value::Code(FunctionName::new(name.as_slice())),
+        }
+    }
 }
 
 /// Why a run trapped.
@@ -33,6 +82,7 @@ pub enum TrapKind {
     BadSlot,
     ReadOnly,
     Abort,
+    BadCall,
 }
 
 /// How a run came out, with what it printed: still going, ended with a status, or trapped.
