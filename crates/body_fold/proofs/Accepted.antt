@@ -12,7 +12,6 @@ use Rattle.gimple_ir.specs.declared.block.End.{End}
 use Rattle.gimple_ir.specs.declared.program.Function.{Function}
 use Rattle.gimple_ir.specs.declared.program.Program.{Program}
 use Rattle.gimple_ir.specs.declared.fault.Site.TheVariants as site
-use Rattle.gimple_core.specs.Names.{same_name}
 use Rattle.gimple_core.specs.Run.{main_name, block_place, place_or}
 use Rattle.gimple_core.specs.Verdict.{◌>>◌, demand, at}
 use Rattle.gimple_core.specs.Env.{Env, Names, has, globals_by_name, functions_by_name}
@@ -70,16 +69,16 @@ set_faces [] n f g e t = cc
 set_faces (x ∷ xs) zero f g e t = let same : x ≡ f = cc in λ i. (ap face same ∙ sym t) i ∷ map face xs
 set_faces (x ∷ xs) (suc n) f g e t = ap (λ ys. face x ∷ ys) (set_faces xs n f g e t)
 
-found_alike : (name : List ℕ) (fs gs : List Function) → Alike fs gs → heads_of (find (λ (f : Function). same_name f.name name) gs) ≡ heads_of (find (λ (f : Function). same_name f.name name) fs)
+found_alike : (name : List ℕ) (fs gs : List Function) → Alike fs gs → heads_of (find (λ (f : Function). bytes_eq f.name name) gs) ≡ heads_of (find (λ (f : Function). bytes_eq f.name name) fs)
 found_alike name [] [] e = refl
 found_alike name [] (g ∷ gs) e = cc
 found_alike name (f ∷ fs) [] e = cc
 found_alike name (f ∷ fs) (g ∷ gs) e =
     let same : face f ≡ face g = heads_same f g fs gs e in
-    by (same_name g.name name) (same_name f.name name) (ap (λ (x : Face). same_name x.name name) (sym same)) same (found_alike name fs gs (ap later_faces e))
+    by (bytes_eq g.name name) (bytes_eq f.name name) (ap (λ (x : Face). bytes_eq x.name name) (sym same)) same (found_alike name fs gs (ap later_faces e))
   where
-    by : (a b : Bool) → a ≡ b → face f ≡ face g → heads_of (find (λ (f : Function). same_name f.name name) gs) ≡ heads_of (find (λ (f : Function). same_name f.name name) fs) →
-        heads_of (if a then Some g else find (λ (f : Function). same_name f.name name) gs) ≡ heads_of (if b then Some f else find (λ (f : Function). same_name f.name name) fs)
+    by : (a b : Bool) → a ≡ b → face f ≡ face g → heads_of (find (λ (f : Function). bytes_eq f.name name) gs) ≡ heads_of (find (λ (f : Function). bytes_eq f.name name) fs) →
+        heads_of (if a then Some g else find (λ (f : Function). bytes_eq f.name name) gs) ≡ heads_of (if b then Some f else find (λ (f : Function). bytes_eq f.name name) fs)
     by true true t same more = λ i. Some (record { params = (sym same i).params; result = (sym same i).result })
     by true false t same more = cc
     by false true t same more = cc

@@ -16,7 +16,6 @@ use Rattle.gimple_ir.specs.declared.declarations.Global.{Global}
 use Rattle.gimple_ir.specs.declared.program.Function.{Function}
 use Rattle.gimple_ir.specs.declared.program.Program.{Program}
 use Rattle.gimple_core.specs.Memory.{same_scalar}
-use Rattle.gimple_core.specs.Names.{same_name}
 use Rattle.gimple_core.specs.Operators.{in_scalar}
 use Rattle.gimple_core.specs.Verdict.{Verdict, ◌>>=◌, ◌>>◌, demand}
 use Rattle.gimple_core.specs.Env.{Env, named, has, is_variable, scalar_of}
@@ -58,23 +57,23 @@ same_self Ptr = refl
 
 -- ---- names
 
-pub has_any : {T : Type 0} (key : T → List ℕ) (name : List ℕ) (xs : List T) → has name (map (λ x. (key x, x)) xs) ≡ list_any (λ x. same_name (key x) name) xs
+pub has_any : {T : Type 0} (key : T → List ℕ) (name : List ℕ) (xs : List T) → has name (map (λ x. (key x, x)) xs) ≡ list_any (λ x. bytes_eq (key x) name) xs
 has_any key name [] = refl
-has_any key name (x ∷ xs) = by (bytes_eq name (key x)) (same_name (key x) name) (same_key name (key x)) (has_any key name xs)
+has_any key name (x ∷ xs) = by (bytes_eq name (key x)) (bytes_eq (key x) name) (same_key name (key x)) (has_any key name xs)
   where
-    by : (a b : Bool) → a ≡ b → has name (map (λ x. (key x, x)) xs) ≡ list_any (λ x. same_name (key x) name) xs → is_some (cond a (Some x) (named name (map (λ x. (key x, x)) xs))) ≡ (b || list_any (λ x. same_name (key x) name) xs)
+    by : (a b : Bool) → a ≡ b → has name (map (λ x. (key x, x)) xs) ≡ list_any (λ x. bytes_eq (key x) name) xs → is_some (cond a (Some x) (named name (map (λ x. (key x, x)) xs))) ≡ (b || list_any (λ x. bytes_eq (key x) name) xs)
     by true true e h = refl
     by true false e h = cc
     by false true e h = cc
     by false false e h = h
 
-pub variable_is : (p : Program) (f : Function) (name : List ℕ) → is_variable (env_of p f) name ≡ (is_local f.locals name || list_any (λ (g : Global). same_name g.decl.name name) p.globals)
+pub variable_is : (p : Program) (f : Function) (name : List ℕ) → is_variable (env_of p f) name ≡ (is_local f.locals name || list_any (λ (g : Global). bytes_eq g.decl.name name) p.globals)
 variable_is p f name = λ i. has_any (λ (d : Decl). d.name) name f.locals i || has_any (λ (g : Global). g.decl.name) name p.globals i
 
-register_is : (p : Program) (f : Function) (rs : List Register) (name : List ℕ) → rs ≡ f.params ++ f.registers → named name (env_of p f).registers ≡ find (λ (r : Register). same_name r.name name) rs
+register_is : (p : Program) (f : Function) (rs : List Register) (name : List ℕ) → rs ≡ f.params ++ f.registers → named name (env_of p f).registers ≡ find (λ (r : Register). bytes_eq r.name name) rs
 register_is p f rs name e =
     sym (ap (named name) (map-append (λ (x : Register). (x.name, x)) f.params f.registers))
-    ∙ (named_find (λ (x : Register). x.name) name (f.params ++ f.registers) ∙ ap (find (λ (r : Register). same_name r.name name)) (sym e))
+    ∙ (named_find (λ (x : Register). x.name) name (f.params ++ f.registers) ∙ ap (find (λ (r : Register). bytes_eq r.name name)) (sym e))
 
 -- ---- an operand
 
@@ -130,18 +129,18 @@ module _ (p : Program) (f : Function) where
   abbrev env : Env
   env = env_of p f
 
-  scalar_found : (rs : List Register) (name : List ℕ) (r : Register) → rs ≡ f.params ++ f.registers → find (λ (r : Register). same_name r.name name) rs ≡ Some r → scalar_of env name ≡ Ok r.scalar
+  scalar_found : (rs : List Register) (name : List ℕ) (r : Register) → rs ≡ f.params ++ f.registers → find (λ (r : Register). bytes_eq r.name name) rs ≡ Some r → scalar_of env name ≡ Ok r.scalar
   unfolding scalar_of
   scalar_found rs name r e h = rw (register_is p f rs name e ∙ h) refl
 
-  scalar_lost : (rs : List Register) (name : List ℕ) → rs ≡ f.params ++ f.registers → find (λ (r : Register). same_name r.name name) rs ≡ None → scalar_of env name ≡ Err 1
+  scalar_lost : (rs : List Register) (name : List ℕ) → rs ≡ f.params ++ f.registers → find (λ (r : Register). bytes_eq r.name name) rs ≡ None → scalar_of env name ≡ Err 1
   unfolding scalar_of
   scalar_lost rs name e h = rw (register_is p f rs name e ∙ h) refl
 
-  pub found_passes : (rs : List Register) (scalar : Scalar) (name : List ℕ) (r : Register) → rs ≡ f.params ++ f.registers → find (λ (r : Register). same_name r.name name) rs ≡ Some r → passes (s.operand env 4 scalar (Reg name)) ≡ same_scalar r.scalar scalar
+  pub found_passes : (rs : List Register) (scalar : Scalar) (name : List ℕ) (r : Register) → rs ≡ f.params ++ f.registers → find (λ (r : Register). bytes_eq r.name name) rs ≡ Some r → passes (s.operand env 4 scalar (Reg name)) ≡ same_scalar r.scalar scalar
   found_passes rs scalar name r e h = own_is env 4 scalar r.scalar name (scalar_found rs name r e h)
 
-  pub lost_fails : (rs : List Register) (scalar : Scalar) (name : List ℕ) → rs ≡ f.params ++ f.registers → find (λ (r : Register). same_name r.name name) rs ≡ None → passes (s.operand env 4 scalar (Reg name)) ≡ false
+  pub lost_fails : (rs : List Register) (scalar : Scalar) (name : List ℕ) → rs ≡ f.params ++ f.registers → find (λ (r : Register). bytes_eq r.name name) rs ≡ None → passes (s.operand env 4 scalar (Reg name)) ≡ false
   lost_fails rs scalar name e h = lost env 4 1 scalar name (scalar_lost rs name e h)
 
   module _ (B : Body) (registers : B.registers ≡ f.params ++ f.registers) where

@@ -10,8 +10,8 @@ use Rattle.gimple_ir.specs.declared.declarations.StructDef.{StructDef}
 use Rattle.gimple_ir.specs.declared.program.Function.{Function}
 use Rattle.gimple_ir.specs.declared.program.Program.{Program}
 use Rattle.gimple_core.specs.Layout.{layout_of}
-use Rattle.gimple_core.specs.Names.{same_name}
-use Rattle.gimple_core.specs.Sealed.{IsAccepted}
+use Rattle.std.specs.Str.{bytes_eq}
+use Rattle.gimple_core.specs.Accepted.{IsAccepted}
 use Rattle.gimple_ir.specs.Size.{size_of_function, size_of_program}
 use Rattle.gimple_core.specs.Verdict.{at}
 use Rattle.gimple_core.specs.Env.{Env, functions_by_name, globals_by_name}
@@ -92,7 +92,7 @@ foldable p n f t own accepted globals size w =
 -- ---- what its folder keeps
 
 abbrev AreSmall : List StructDef → List Global → Type 0
-AreSmall structs globals = (name : List ℕ) (g : Global) → find (λ g. same_name g.decl.name name) globals ≡ Some g → (layout_of structs g.decl).size ≤ 2 ^ 24
+AreSmall structs globals = (name : List ℕ) (g : Global) → find (λ g. bytes_eq g.decl.name name) globals ≡ Some g → (layout_of structs g.decl).size ≤ 2 ^ 24
 
 module _ (s : Folder) (p : Program) (n : ℕ) (f : Function) (t : Found) (h : IsFolderOf s p f t) (g : IsFoldable p n f t) where
   law : IsLawful t.limits.ends

@@ -10,7 +10,6 @@ use Rattle.gimple_ir.specs.declared.declarations.StructDef.{StructDef}
 use Rattle.gimple_ir.specs.declared.declarations.Global.{Global}
 use Rattle.gimple_ir.specs.declared.program.Function.{Function}
 use Rattle.gimple_ir.specs.declared.program.Program.{Program}
-use Rattle.gimple_core.specs.Names.{same_name}
 use Rattle.gimple_core.specs.Verdict.{demand, at}
 use Rattle.gimple_core.specs.Env.{Env, Names, has, named, declared, globals_by_name, functions_by_name}
 use Rattle.gimple_core.specs.Declarations as d
@@ -44,7 +43,7 @@ unlike false x name e h = e
 
 pub record IsFirst (earlier : Names Global) (gs : List Global) (k : ℕ) (g : Global) : Type 0 where
   pub new : has g.decl.name earlier ≡ false
-  pub place : position_or_len (λ (x : Global). same_name x.decl.name g.decl.name) gs ≡ k
+  pub place : position_or_len (λ (x : Global). bytes_eq x.decl.name g.decl.name) gs ≡ k
 
 global_first : (structs : List StructDef) (all : Names Global) (number : ℕ) (earlier out : Names Global) (gs : List Global) → d.globals structs all number earlier gs ≡ Ok out → (k : ℕ) (g : Global) → slice_get gs k ≡ Some g → IsFirst earlier gs k g
 unfolding d.globals d.one_global
@@ -54,7 +53,7 @@ global_first structs all number earlier out (x ∷ xs) h zero g e =
     let more = first_passed (declared earlier x.decl.name x) _ p.0 (at_passed _ (d.one_global structs all earlier x) p.0 p.1) in
     let new = declared_new earlier x.decl.name x more.0 more.1 in
     let same : x ≡ g = cc in
-    record { new = subst (λ (y : Global). has y.decl.name earlier ≡ false) same new.0; place = here_first (same_name x.decl.name g.decl.name) _ (ap (λ (y : Global). same_name y.decl.name g.decl.name) same ∙ same_name_self g.decl.name) }
+    record { new = subst (λ (y : Global). has y.decl.name earlier ≡ false) same new.0; place = here_first (bytes_eq x.decl.name g.decl.name) _ (ap (λ (y : Global). bytes_eq y.decl.name g.decl.name) same ∙ same_name_self g.decl.name) }
 global_first structs all number earlier out (x ∷ xs) h (suc k) g e =
     let p = first_passed (at _ (d.one_global structs all earlier x)) _ out h in
     let more = first_passed (declared earlier x.decl.name x) _ p.0 (at_passed _ (d.one_global structs all earlier x) p.0 p.1) in
@@ -62,8 +61,8 @@ global_first structs all number earlier out (x ∷ xs) h (suc k) g e =
     let made : p.0 ≡ earlier ++ (x.decl.name, x) ∷ [] = one_made earlier p.0 x (at_passed _ (d.one_global structs all earlier x) p.0 p.1) in
     let r : IsFirst p.0 xs k g = global_first structs all (number + 1) p.0 out xs p.2 k g e in
     let apart = neither (has g.decl.name earlier) (has g.decl.name ((x.decl.name, x) ∷ [])) (sym (has_append g.decl.name earlier ((x.decl.name, x) ∷ [])) ∙ (ap (has g.decl.name) (sym made) ∙ r.new)) in
-    let other : same_name x.decl.name g.decl.name ≡ false = sym (same_test g.decl.name x.decl.name) ∙ unlike (bytes_eq g.decl.name x.decl.name) x g.decl.name refl apart.1 in
-    record { new = apart.0; place = later_first (same_name x.decl.name g.decl.name) _ other ∙ ap suc r.place }
+    let other : bytes_eq x.decl.name g.decl.name ≡ false = sym (same_test g.decl.name x.decl.name) ∙ unlike (bytes_eq g.decl.name x.decl.name) x g.decl.name refl apart.1 in
+    record { new = apart.0; place = later_first (bytes_eq x.decl.name g.decl.name) _ other ∙ ap suc r.place }
   where
     one_made : (earlier out : Names Global) (x : Global) → d.one_global structs all earlier x ≡ Ok out → out ≡ earlier ++ (x.decl.name, x) ∷ []
     one_made earlier out x h =
@@ -80,10 +79,10 @@ placed_by : (b : Bool) (n k : ℕ) → b ≡ true → n ≡ k → cond b (Some n
 placed_by true n k e h = ap Some h
 placed_by false n k e h = cc
 
-place_is : (gs : List Global) (k : ℕ) (g : Global) → slice_get gs k ≡ Some g → position_or_len (λ (x : Global). same_name x.decl.name g.decl.name) gs ≡ k → global_place gs g.decl.name ≡ Some k
+place_is : (gs : List Global) (k : ℕ) (g : Global) → slice_get gs k ≡ Some g → position_or_len (λ (x : Global). bytes_eq x.decl.name g.decl.name) gs ≡ k → global_place gs g.decl.name ≡ Some k
 place_is gs k g e h =
     let within : k < length gs = slice_get_within gs k g e in
-    placed_by _ _ k (less (position_or_len (λ (x : Global). same_name x.decl.name g.decl.name) gs) (length gs) (omega (arith, h, within))) h
+    placed_by _ _ k (less (position_or_len (λ (x : Global). bytes_eq x.decl.name g.decl.name) gs) (length gs) (omega (arith, h, within))) h
 
 -- ---- they are among the names
 
@@ -95,7 +94,7 @@ global_listed : (gs : List Global) (k : ℕ) (g : Global) → slice_get gs k ≡
 global_listed [] k g e = cc
 global_listed (x ∷ xs) zero g e =
     let same : x ≡ g = cc in
-    has_by (bytes_eq g.decl.name x.decl.name) x (named g.decl.name (globals_by_name xs)) (λ f. absurd (clash _ (same_test g.decl.name x.decl.name ∙ (ap (λ (y : Global). same_name y.decl.name g.decl.name) same ∙ same_name_self g.decl.name)) f))
+    has_by (bytes_eq g.decl.name x.decl.name) x (named g.decl.name (globals_by_name xs)) (λ f. absurd (clash _ (same_test g.decl.name x.decl.name ∙ (ap (λ (y : Global). bytes_eq y.decl.name g.decl.name) same ∙ same_name_self g.decl.name)) f))
   where
     clash : (b : Bool) → b ≡ true → b ≡ false → ⊥
     clash true e f = cc
@@ -141,13 +140,13 @@ unfolding d.locals
 locals_free env out names [] name h k = refl
 locals_free env out names (x ∷ xs) name h k =
     let p = first_passed (d.local env names x) _ out h in
-    by (same_name x.name name) refl (local_new env p.0 names x p.1) (locals_free p.0 out names xs name p.2 (ap (has name) (local_globals env p.0 names x p.1) ∙ k))
+    by (bytes_eq x.name name) refl (local_new env p.0 names x p.1) (locals_free p.0 out names xs name p.2 (ap (has name) (local_globals env p.0 names x p.1) ∙ k))
   where
     clash : (b : Bool) → not b ≡ true → b ≡ true → ⊥
     clash true e f = cc
     clash false e f = cc
 
-    by : (b : Bool) → same_name x.name name ≡ b → not (has x.name env.globals) ≡ true → is_local xs name ≡ false → (b || is_local xs name) ≡ false
+    by : (b : Bool) → bytes_eq x.name name ≡ b → not (has x.name env.globals) ≡ true → is_local xs name ≡ false → (b || is_local xs name) ≡ false
     by true e new more = absurd (clash (has x.name env.globals) new (ap (λ n. has n env.globals) (same_name_true x.name name e) ∙ k))
     by false e new more = more
 

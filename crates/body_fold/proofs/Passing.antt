@@ -19,7 +19,7 @@ use Rattle.gimple_ir.specs.declared.block.End.TheVariants.{Goto, If, Switch, Ret
 use Rattle.gimple_ir.specs.declared.program.Function.{Function}
 use Rattle.gimple_ir.specs.declared.program.Program.{Program}
 use Rattle.gimple_core.specs.Memory.{same_scalar}
-use Rattle.gimple_core.specs.Names.{same_name}
+use Rattle.std.specs.Str.{bytes_eq}
 use Rattle.gimple_core.specs.Run.{case_target, any_number}
 use Rattle.gimple_core.specs.Verdict.{Verdict, ◌>>◌, demand, found}
 use Rattle.gimple_core.specs.Env.{Env, named, registers_by_name, scalar_of}
@@ -57,8 +57,8 @@ unfolding scalar_of
 own_scalar p f name scalar h =
     let r = first_passed (found (named name (env_of p f).registers) 1) _ scalar h in
     let there : named name (registers_by_name (f.params ++ f.registers)) ≡ Some r.0 = ap (named name) (map-append (λ (x : Register). (x.name, x)) f.params f.registers) ∙ found_so _ 1 r.0 r.1 in
-    let at : slice_get (f.params ++ f.registers) (position_or_len (λ (x : Register). same_name x.name name) (f.params ++ f.registers)) ≡ Some r.0 =
-    sym (find_at (λ (x : Register). same_name x.name name) (f.params ++ f.registers)) ∙ (sym (named_find (λ (x : Register). x.name) name (f.params ++ f.registers)) ∙ there) in
+    let at : slice_get (f.params ++ f.registers) (position_or_len (λ (x : Register). bytes_eq x.name name) (f.params ++ f.registers)) ≡ Some r.0 =
+    sym (find_at (λ (x : Register). bytes_eq x.name name) (f.params ++ f.registers)) ∙ (sym (named_find (λ (x : Register). x.name) name (f.params ++ f.registers)) ∙ there) in
     ap scalar_or at ∙ ok_same r.2
 
 module _ (p : Program) (f : Function) (S : Folding) (row : List AbsVal) (seen : S.env ≡ env_of p f) (registers : S.body.registers ≡ f.params ++ f.registers) where

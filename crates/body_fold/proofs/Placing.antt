@@ -13,7 +13,7 @@ use Rattle.gimple_ir.specs.declared.declarations.Global.{Global}
 use Rattle.gimple_ir.specs.declared.program.Function.{Function}
 use Rattle.gimple_ir.specs.declared.program.Program.{Program}
 use Rattle.gimple_core.specs.Layout.{layout_of}
-use Rattle.gimple_core.specs.Names.{same_name}
+use Rattle.std.specs.Str.{bytes_eq}
 use Rattle.gimple_core.specs.Operators.{in_scalar}
 use Rattle.gimple_core.specs.Verdict.{demand}
 use Rattle.gimple_core.specs.Env.{named, is_constant, variable, globals_by_name, decls_by_name}
@@ -48,10 +48,10 @@ module _ (p : Program) (f : Function) (mean : NamesMean p.globals f.locals) (k :
   means = mean k g there
 
   -- the global is the first of its name
-  pub first_named : find (λ (x : Global). same_name x.decl.name g.decl.name) p.globals ≡ Some g
+  pub first_named : find (λ (x : Global). bytes_eq x.decl.name g.decl.name) p.globals ≡ Some g
   first_named =
-      find_at (λ (x : Global). same_name x.decl.name g.decl.name) p.globals
-      ∙ (ap (slice_get p.globals) (number_is _ (position_or_len (λ (x : Global). same_name x.decl.name g.decl.name) p.globals) k means.place) ∙ there)
+      find_at (λ (x : Global). bytes_eq x.decl.name g.decl.name) p.globals
+      ∙ (ap (slice_get p.globals) (number_is _ (position_or_len (λ (x : Global). bytes_eq x.decl.name g.decl.name) p.globals) k means.place) ∙ there)
 
   global_is : named g.decl.name (globals_by_name p.globals) ≡ Some g
   global_is = named_find (λ (x : Global). x.decl.name) g.decl.name p.globals ∙ first_named

@@ -9,7 +9,7 @@ use Rattle.gimple_ir.specs.declared.block.End.{End}
 use Rattle.gimple_ir.specs.declared.statement.Stmt.{Stmt}
 use Rattle.gimple_ir.specs.declared.program.Function.{Function}
 use Rattle.gimple_ir.specs.declared.program.Program.{Program}
-use Rattle.gimple_core.specs.Names.{same_name}
+use Rattle.std.specs.Str.{bytes_eq}
 use Rattle.gimple_core.specs.Operators.{in_scalar}
 use Rattle.gimple_core.specs.State.{State}
 use Rattle.gimple_core.specs.Run.{Calling, function_named, main_name, block_at, block_place, place_or, Run}
@@ -133,7 +133,7 @@ module _ (p : Program) (n : ℕ) (f : Function) (facts : Facts) (most : ℕ) (ts
   Instanced name None = function_named name gs ≡ None
   Instanced name (Some h) = (j : ℕ) × (I.source j ≡ h) × (function_named name gs ≡ Some (instance I j))
 
-  instanced_by : (name : List ℕ) (o : Option Function) → Chosen (λ (h : Function). same_name h.name name) p.functions n g o → Instanced name o
+  instanced_by : (name : List ℕ) (o : Option Function) → Chosen (λ (h : Function). bytes_eq h.name name) p.functions n g o → Instanced name o
   unfolding function_named
   instanced_by name None c = c
   instanced_by name (Some h) c = (c.0, source_at c.0 h c.1, c.2 ∙ ap Some (instance_by c.0 h c.1 (c.0 == n) refl))
@@ -141,7 +141,7 @@ module _ (p : Program) (n : ℕ) (f : Function) (facts : Facts) (most : ℕ) (ts
   instanced : (name : List ℕ) (o : Option Function) → function_named name p.functions ≡ o → Instanced name o
   unfolding function_named
   instanced name o e =
-      instanced_by name o (find_replaced (λ (h : Function). same_name h.name name) p.functions n f g o folds.own (ap (λ (h : Function). same_name h.name name) folds.folded.is) e)
+      instanced_by name o (find_replaced (λ (h : Function). bytes_eq h.name name) p.functions n f g o folds.own (ap (λ (h : Function). bytes_eq h.name name) folds.folded.is) e)
 
   -- ---- bodies
 

@@ -6,7 +6,7 @@ use Rattle.gimple_ir.specs.declared.declarations.Register.{Register}
 use Rattle.gimple_ir.specs.declared.block.Block.{Block}
 use Rattle.gimple_ir.specs.declared.program.Function.{Function}
 use Rattle.gimple_ir.specs.declared.program.Program.{Program}
-use Rattle.gimple_core.specs.Names.{same_name}
+use Rattle.std.specs.Str.{bytes_eq}
 use Rattle.fix_engine.specs.declared.lifted.Lifted.{Lifted}
 use Rattle.fix_engine.specs.declared.lifted.Lifted.TheVariants.{NotReached, Reached}
 use Rattle.value_domain.specs.declared.abs_val.AbsVal.{AbsVal}
@@ -51,11 +51,11 @@ module _ (p : Program) (n : ℕ) (f : Function) (facts : Facts) (limits : Limits
 -- ---- registers by name
 
 abbrev named : List ℕ → List Register → Bool
-named name rs = list_any (λ r. same_name r.name name) rs
+named name rs = list_any (λ r. bytes_eq r.name name) rs
 
 named_place : (name : List ℕ) (rs : List Register) → named name rs ≡ true → place_of rs name < length rs
 named_place name [] h = cc
-named_place name (r ∷ rs) h = by (same_name r.name name) h (λ k. named_place name rs k)
+named_place name (r ∷ rs) h = by (bytes_eq r.name name) h (λ k. named_place name rs k)
   where
     by : (b : Bool) → (b || named name rs) ≡ true → (named name rs ≡ true → place_of rs name < length rs) → cond (not b) (1 + place_of rs name) 0 < suc (length rs)
     by true h k = omega arith
@@ -63,7 +63,7 @@ named_place name (r ∷ rs) h = by (same_name r.name name) h (λ k. named_place 
 
 place_named : (name : List ℕ) (rs : List Register) → place_of rs name < length rs → named name rs ≡ true
 place_named name [] l = absurd (omega (arith, l))
-place_named name (r ∷ rs) l = by (same_name r.name name) l (λ k. place_named name rs k)
+place_named name (r ∷ rs) l = by (bytes_eq r.name name) l (λ k. place_named name rs k)
   where
     by : (b : Bool) → cond (not b) (1 + place_of rs name) 0 < suc (length rs) → (place_of rs name < length rs → named name rs ≡ true) → (b || named name rs) ≡ true
     by true l k = refl

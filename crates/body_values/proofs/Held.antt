@@ -6,7 +6,8 @@ use Rattle.gimple_ir.specs.declared.value.Value.{Value}
 use Rattle.gimple_ir.specs.declared.value.Value.TheVariants.{Int as Number, Null as NullPointer, At}
 use Rattle.gimple_ir.specs.declared.declarations.Register.{Register}
 use Rattle.gimple_core.specs.declared.machine.Cell.{Cell}
-use Rattle.gimple_core.specs.Names.{same_name, update_first}
+use Rattle.std.specs.Str.{bytes_eq}
+use Rattle.gimple_core.specs.Names.{update_first}
 use Rattle.gimple_core.specs.State.{cell_of, assigned}
 use Rattle.gimple_core.specs.Statements as s
 use Rattle.gimple_claims.specs.Laws.{keys}
@@ -111,7 +112,7 @@ found_there rs row [] name d k h e = cc
 found_there [] row (c ∷ cs) name d k h e = cc
 found_there (r ∷ rs) [] (c ∷ cs) name d k h e = absurd h
 found_there (r ∷ rs) (a ∷ bs) (c ∷ cs) name d k h e =
-    let f = by (same_name r.name name) (same_name c.name name) (ap (λ n. same_name n name) (sym (key_name r c rs cs k))) e (found_there rs bs cs name d (ap later_keys k) h.1) in
+    let f = by (bytes_eq r.name name) (bytes_eq c.name name) (ap (λ n. bytes_eq n name) (sym (key_name r c rs cs k))) e (found_there rs bs cs name d (ap later_keys k) h.1) in
     record { value = f.0; scalar = f.1 }
   where
     by : (p q : Bool) → p ≡ q → (if q then Some c else cell_of name cs) ≡ Some d → (cell_of name cs ≡ Some d → Found rs bs name d) →
@@ -133,7 +134,7 @@ set_holds [] (a ∷ bs) (c ∷ cs) name v b k h g = absurd (no_keys (ap length k
   where
     no_keys : length (keys (c ∷ cs)) ≡ 0 → ⊥
     no_keys e = omega (arith, e)
-set_holds (r ∷ rs) (a ∷ bs) (c ∷ cs) name v b k h g = by (same_name r.name name) (same_name c.name name) (ap (λ n. same_name n name) (sym (key_name r c rs cs k))) (set_holds rs bs cs name v b (ap later_keys k) h.1 g)
+set_holds (r ∷ rs) (a ∷ bs) (c ∷ cs) name v b k h g = by (bytes_eq r.name name) (bytes_eq c.name name) (ap (λ n. bytes_eq n name) (sym (key_name r c rs cs k))) (set_holds rs bs cs name v b (ap later_keys k) h.1 g)
   where
     by : (p q : Bool) → p ≡ q → RowHolds (slice_set bs (place_of rs name) b) (assigned cs name v) →
         RowHolds (slice_set (a ∷ bs) (cond (not p) (1 + place_of rs name) 0) b) (if q then record c { value = v } ∷ cs else c ∷ assigned cs name v)
@@ -151,10 +152,10 @@ refined_holds [] (a ∷ bs) (c ∷ cs) name b k h g = absurd (no_keys (ap length
   where
     no_keys : length (keys (c ∷ cs)) ≡ 0 → ⊥
     no_keys e = omega (arith, e)
-refined_holds (r ∷ rs) (a ∷ bs) (c ∷ cs) name b k h g = by (same_name r.name name) (same_name c.name name) (ap (λ n. same_name n name) (sym (key_name r c rs cs k))) refl
+refined_holds (r ∷ rs) (a ∷ bs) (c ∷ cs) name b k h g = by (bytes_eq r.name name) (bytes_eq c.name name) (ap (λ n. bytes_eq n name) (sym (key_name r c rs cs k))) refl
     (λ e. refined_holds rs bs cs name b (ap later_keys k) h.1 (λ d f. g d (rw e f)))
   where
-    by : (p q : Bool) → p ≡ q → same_name c.name name ≡ q → (same_name c.name name ≡ false → RowHolds (slice_set bs (place_of rs name) b) cs) → RowHolds (slice_set (a ∷ bs) (cond (not p) (1 + place_of rs name) 0) b) (c ∷ cs)
+    by : (p q : Bool) → p ≡ q → bytes_eq c.name name ≡ q → (bytes_eq c.name name ≡ false → RowHolds (slice_set bs (place_of rs name) b) cs) → RowHolds (slice_set (a ∷ bs) (cond (not p) (1 + place_of rs name) 0) b) (c ∷ cs)
     by true true t e more = (g c (rw e refl), h.1)
     by true false t e more = cc
     by false true t e more = cc
@@ -172,7 +173,7 @@ put_holds most ts rs row cells after name v b f h g = by (is_none_val b) refl
 pub assigned_typed : (cells : List Cell) (name : List ℕ) (v : Value) (d : Cell) → cell_of name cells ≡ Some d → cells_typed (assigned cells name v) ≡ true → is_of d.scalar v ≡ true
 unfolding update_first
 assigned_typed [] name v d e t = cc
-assigned_typed (c ∷ cs) name v d e t = by (same_name c.name name) e t (assigned_typed cs name v d)
+assigned_typed (c ∷ cs) name v d e t = by (bytes_eq c.name name) e t (assigned_typed cs name v d)
   where
     by : (q : Bool) → (if q then Some c else cell_of name cs) ≡ Some d → cells_typed (if q then record c { value = v } ∷ cs else c ∷ assigned cs name v) ≡ true →
         (cell_of name cs ≡ Some d → cells_typed (assigned cs name v) ≡ true → is_of d.scalar v ≡ true) → is_of d.scalar v ≡ true

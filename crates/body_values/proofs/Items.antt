@@ -26,7 +26,7 @@ use Rattle.gimple_core.specs.declared.machine.Cell.{Cell}
 use Rattle.gimple_core.specs.declared.machine.MemorySlot.{MemorySlot}
 use Rattle.gimple_core.specs.declared.machine.Extent.{Extent}
 use Rattle.gimple_core.specs.declared.machine.FoundSlot.{FoundSlot}
-use Rattle.gimple_core.specs.Names.{same_name}
+use Rattle.std.specs.Str.{bytes_eq}
 use Rattle.gimple_core.specs.Layout.{layout_of}
 use Rattle.gimple_core.specs.Operators.{in_scalar}
 use Rattle.gimple_core.specs.Memory.{Memory, same_object, moved_by, is_slot, found_slot, found_offset, found_extent, found_at}
@@ -190,11 +190,11 @@ module _ (p : Program) (n : ℕ) (f : Function) (facts : Facts) (most : ℕ) (ts
   abbrev scope : Scope
   scope = record { locals = f.locals; serial = serial }
 
-  place_of_global : (name : List ℕ) (g : Global) → find (λ (g : Global). same_name g.decl.name name) p.globals ≡ Some g → (k : ℕ) × (slice_get p.globals k ≡ Some g) × (global_place p.globals name ≡ Some k)
+  place_of_global : (name : List ℕ) (g : Global) → find (λ (g : Global). bytes_eq g.decl.name name) p.globals ≡ Some g → (k : ℕ) × (slice_get p.globals k ≡ Some g) × (global_place p.globals name ≡ Some k)
   place_of_global name g e =
-      let there : slice_get p.globals (position_or_len (λ (g : Global). same_name g.decl.name name) p.globals) ≡ Some g = sym (find_at (λ (g : Global). same_name g.decl.name name) p.globals) ∙ e in
-      let within : position_or_len (λ (g : Global). same_name g.decl.name name) p.globals < length p.globals = slice_get_within p.globals _ g there in
-      (position_or_len (λ (g : Global). same_name g.decl.name name) p.globals, there, search (rules, within))
+      let there : slice_get p.globals (position_or_len (λ (g : Global). bytes_eq g.decl.name name) p.globals) ≡ Some g = sym (find_at (λ (g : Global). bytes_eq g.decl.name name) p.globals) ∙ e in
+      let within : position_or_len (λ (g : Global). bytes_eq g.decl.name name) p.globals < length p.globals = slice_get_within p.globals _ g there in
+      (position_or_len (λ (g : Global). bytes_eq g.decl.name name) p.globals, there, search (rules, within))
 
   slot_holds : (k : ℕ) (g : Global) (scalar : Scalar) (offset : ℤ) (x : FoundSlot) → slice_get p.globals k ≡ Some g → g.constant ≡ true → found_at memory (At (GlobalObject k) offset) scalar ≡ Ok x → value_of_scalar scalar x.value ≡ true →
       (o : Option ℕ) → slot_place (layout_of p.structs g.decl).slots offset scalar ≡ o → IfSome (slot_value B scalar g o) (Holds x.value)
@@ -213,7 +213,7 @@ module _ (p : Program) (n : ℕ) (f : Function) (facts : Facts) (most : ℕ) (ts
       alone_holds most ts law scalar x.value (item_constant p.globals scalar (slice_get g.items j)) typed (ap constant_of whole ∙ item_is p.globals scalar g.items j)
 
   variable_holds : (name : List ℕ) (scalar : Scalar) (offset : ℤ) (x : FoundSlot) → is_local f.locals name ≡ false → in_scalar I64 offset ≡ true → found_at memory (moved_by (address_of p.globals scope name) (offset_in offset)) scalar ≡ Ok x → value_of_scalar scalar x.value ≡ true →
-      (o : Option Global) → find (λ (g : Global). same_name g.decl.name name) p.globals ≡ o → IfSome (constant_slot B scalar offset o) (Holds x.value)
+      (o : Option Global) → find (λ (g : Global). bytes_eq g.decl.name name) p.globals ≡ o → IfSome (constant_slot B scalar offset o) (Holds x.value)
   unfolding address_of_global moved_by
   variable_holds name scalar offset x free inside found typed None e = tt
   variable_holds name scalar offset x free inside found typed (Some g) e =
@@ -241,4 +241,4 @@ module _ (p : Program) (n : ℕ) (f : Function) (facts : Facts) (most : ℕ) (ts
       by (Variable name) g h =
           let a = first_passed (found (variable (env_of p f) name) 1) _ tt h in
           let c = first_passed (demand (in_scalar I64 place.offset) 13) _ tt a.2 in
-          unless_local name _ x.value (is_local f.locals name) refl (λ free. variable_holds name scalar place.offset x free (demanded _ 13 c.1) g typed (find (λ (g : Global). same_name g.decl.name name) p.globals) refl)
+          unless_local name _ x.value (is_local f.locals name) refl (λ free. variable_holds name scalar place.offset x free (demanded _ 13 c.1) g typed (find (λ (g : Global). bytes_eq g.decl.name name) p.globals) refl)

@@ -14,7 +14,7 @@ use Rattle.gimple_ir.specs.declared.declarations.Global.{Global}
 use Rattle.gimple_ir.specs.declared.program.Function.{Function}
 use Rattle.gimple_ir.specs.declared.program.Program.{Program}
 use Rattle.gimple_core.specs.declared.machine.Cell.{Cell}
-use Rattle.gimple_core.specs.Names.{same_name}
+use Rattle.std.specs.Str.{bytes_eq}
 use Rattle.gimple_core.specs.Operators.{in_scalar, wrapped}
 use Rattle.gimple_core.specs.Memory.{moved_by}
 use Rattle.gimple_core.specs.State.{Scope, value_in, cell_of, cell_value, number_in, offset_in}
@@ -70,18 +70,18 @@ place_missing false n h = refl
 abbrev AreUnlike : List ℕ → List Decl → Type 0
 AreUnlike name ds = is_local ds name ≡ false
 
-none_passes : (name : List ℕ) (ds : List Decl) → is_local ds name ≡ false → length ds ≡ position_or_len (λ d. same_name d.name name) ds
+none_passes : (name : List ℕ) (ds : List Decl) → is_local ds name ≡ false → length ds ≡ position_or_len (λ d. bytes_eq d.name name) ds
 none_passes name [] h = refl
-none_passes name (d ∷ ds) h = by (same_name d.name name) h (none_passes name ds)
+none_passes name (d ∷ ds) h = by (bytes_eq d.name name) h (none_passes name ds)
   where
-    by : (b : Bool) → (b || is_local ds name) ≡ false → (is_local ds name ≡ false → length ds ≡ position_or_len (λ d. same_name d.name name) ds) → length (d ∷ ds) ≡ cond (not b) (1 + position_or_len (λ d. same_name d.name name) ds) 0
+    by : (b : Bool) → (b || is_local ds name) ≡ false → (is_local ds name ≡ false → length ds ≡ position_or_len (λ d. bytes_eq d.name name) ds) → length (d ∷ ds) ≡ cond (not b) (1 + position_or_len (λ d. bytes_eq d.name name) ds) 0
     by true e more = cc
     by false e more = let n = more e in omega (arith, n)
 
 not_less : (n m : ℕ) → m ≡ n → nat_lt n m ≡ false
 not_less n m e = grind (arith, e)
 
-pub no_local : (name : List ℕ) (ds : List Decl) → is_local ds name ≡ false → position (λ (d : Decl). same_name d.name name) ds ≡ None
+pub no_local : (name : List ℕ) (ds : List Decl) → is_local ds name ≡ false → position (λ (d : Decl). bytes_eq d.name name) ds ≡ None
 no_local name ds h = place_missing _ _ (not_less _ _ (none_passes name ds h))
 
 pub local_free : (globals : List Global) (scope : Scope) (name : List ℕ) → is_local scope.locals name ≡ false → address_of globals scope name ≡ address_of_global globals name

@@ -14,8 +14,8 @@ use Rattle.gimple_ir.specs.declared.block.Block.{Block}
 use Rattle.gimple_ir.specs.declared.program.Function.{Function}
 use Rattle.gimple_ir.specs.declared.program.Program.{Program}
 use Rattle.gimple_core.specs.Layout.{layout_of}
-use Rattle.gimple_core.specs.Names.{same_name}
-use Rattle.gimple_core.specs.Sealed.{IsAccepted}
+use Rattle.std.specs.Str.{bytes_eq}
+use Rattle.gimple_core.specs.Accepted.{IsAccepted}
 use Rattle.gimple_ir.specs.Size.{size_of_block, size_of_function, size_of_program, branches_of_function}
 use Rattle.fix_engine.specs.Bools.{both}
 use Rattle.fix_engine.specs.Rows.{Each}
@@ -51,7 +51,7 @@ are_loads most ts [] h = refl
 are_loads most ts (x ∷ loads) h = both (fits_by most ts x.value) (loads_by most ts loads) (is_fitting most ts x.value h.0) (are_loads most ts loads h.1)
 
 abbrev AreSmall : List StructDef → List Global → Type 0
-AreSmall structs globals = (name : List ℕ) (g : Global) → find (λ g. same_name g.decl.name name) globals ≡ Some g → (layout_of structs g.decl).size ≤ 2 ^ 24
+AreSmall structs globals = (name : List ℕ) (g : Global) → find (λ g. bytes_eq g.decl.name name) globals ≡ Some g → (layout_of structs g.decl).size ≤ 2 ^ 24
 
 -- a scene of the function's parts
 pub scene_is : (s : Scene) (p : Program) (n : ℕ) (f : Function) (facts : Facts) (limits : Limits) (structs : List StructDef) (globals : List Global) (locals slots : List Decl) (rs : List Register) (loads : GivenLoads) (given : List LoadFact) → IsSceneBy s p structs globals locals rs loads limits →

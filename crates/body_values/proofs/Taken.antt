@@ -20,7 +20,7 @@ use Rattle.gimple_ir.specs.declared.block.End.TheVariants.{If, Switch}
 use Rattle.gimple_ir.specs.declared.program.Function.{Function}
 use Rattle.gimple_ir.specs.declared.program.Program.{Program}
 use Rattle.gimple_core.specs.declared.machine.Cell.{Cell}
-use Rattle.gimple_core.specs.Names.{same_name}
+use Rattle.std.specs.Str.{bytes_eq}
 use Rattle.gimple_core.specs.Operators.{in_scalar, cmp_of}
 use Rattle.gimple_core.specs.Memory.{same_object}
 use Rattle.gimple_core.specs.State.{Scope, value_in, cell_value}
@@ -283,7 +283,7 @@ module _ (p : Program) (n : ℕ) (f : Function) (facts : Facts) (most : ℕ) (ts
         refine_holds most ts law (turned cmp) scalar (turned_may cmp scalar h.may) b a h.good_right.0 h.good_right.1 h.good_left.0 h.good_left.1 (value right) (value left) h.typed_right h.typed_left h.right_holds h.left_holds
         (sym (compares_turned (value left) cmp (value right)) ∙ h.is)
 
-    two_sides : (row : List AbsVal) → RowHolds row cells → (o q : List ℕ) → value left ≡ value_in cells o → value right ≡ value_in cells q → (e : Bool) → same_name o q ≡ e → FileHolds
+    two_sides : (row : List AbsVal) → RowHolds row cells → (o q : List ℕ) → value left ≡ value_in cells o → value right ≡ value_in cells q → (e : Bool) → bytes_eq o q ≡ e → FileHolds
         (cond e (put_value rs row o (abs_met (refined_of cmp ts a b) (refined_of (turned cmp) ts b a))) (where_reached (put_value rs row o (refined_of cmp ts a b)) (λ z. put_value rs z q (refined_of (turned cmp) ts b a)))) cells
     two_sides row g o q x y true e =
         let names : o ≡ q = same_name_true o q e in
@@ -296,7 +296,7 @@ module _ (p : Program) (n : ℕ) (f : Function) (facts : Facts) (most : ℕ) (ts
         (λ z w. put_refined z q _ w right_good.0 (subst (λ v. Holds v (refined_of (turned cmp) ts b a)) y right_left))
 
     sides_left : (row : List AbsVal) → RowHolds row cells → (o q : Option (List ℕ)) → register_of left ≡ o → register_of right ≡ q → FileHolds (left_sides B cmp row o q a b) cells
-    sides_left row g (Some o) (Some q) x y = two_sides row g o q (register_value left o x) (register_value right q y) (same_name o q) refl
+    sides_left row g (Some o) (Some q) x y = two_sides row g o q (register_value left o x) (register_value right q y) (bytes_eq o q) refl
     sides_left row g (Some o) None x y = put_refined row o _ g left_good.0 (subst (λ v. Holds v (refined_of cmp ts a b)) (register_value left o x) left_left)
     sides_left row g None (Some q) x y = put_refined row q _ g right_good.0 (subst (λ v. Holds v (refined_of (turned cmp) ts b a)) (register_value right q y) right_left)
     sides_left row g None None x y = g

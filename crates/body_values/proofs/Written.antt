@@ -11,7 +11,7 @@ use Rattle.gimple_ir.specs.declared.operand.Place.{Place}
 use Rattle.gimple_ir.specs.declared.declarations.Global.{Global}
 use Rattle.gimple_ir.specs.declared.declarations.Register.{Register}
 use Rattle.gimple_ir.specs.declared.statement.Stmt.{Stmt}
-use Rattle.gimple_core.specs.Names.{same_name}
+use Rattle.std.specs.Str.{bytes_eq}
 use Rattle.fix_engine.specs.declared.lifted.Lifted.TheVariants.{NotReached, Reached}
 use Rattle.gimple_core.specs.Layout.{layout_of}
 use Rattle.value_domain.specs.AbsOperators.{exactly_of}
@@ -48,12 +48,12 @@ set_past (x ∷ xs) (suc n) v h = ap (λ ys. x ∷ ys) (set_past xs n v (omega (
 
 -- ---- items
 
-item_by : (B : Body) (scalar : Scalar) (offset : ℤ) (name : List ℕ) (b : Bool) → b ≡ false → (o : Option Global) → find (λ g. same_name g.decl.name name) B.globals ≡ o →
-    cond b None (constant_slot B scalar offset (find (λ g. same_name g.decl.name name) B.globals)) ≡ constant_slot B scalar offset o
+item_by : (B : Body) (scalar : Scalar) (offset : ℤ) (name : List ℕ) (b : Bool) → b ≡ false → (o : Option Global) → find (λ g. bytes_eq g.decl.name name) B.globals ≡ o →
+    cond b None (constant_slot B scalar offset (find (λ g. bytes_eq g.decl.name name) B.globals)) ≡ constant_slot B scalar offset o
 item_by B scalar offset name true e o f = cc
 item_by B scalar offset name false e o f = ap (constant_slot B scalar offset) f
 
-pub item_is : (B : Body) (scalar : Scalar) (place : Place) (name : List ℕ) → place.base ≡ Variable name → is_local B.locals name ≡ false → (o : Option Global) → find (λ g. same_name g.decl.name name) B.globals ≡ o → item_value B scalar place ≡ constant_slot B scalar place.offset o
+pub item_is : (B : Body) (scalar : Scalar) (place : Place) (name : List ℕ) → place.base ≡ Variable name → is_local B.locals name ≡ false → (o : Option Global) → find (λ g. bytes_eq g.decl.name name) B.globals ≡ o → item_value B scalar place ≡ constant_slot B scalar place.offset o
 unfolding item_value
 item_is B scalar place name e f o g =
     ap (λ b. item_value B scalar (record { base = b; offset = place.offset })) e ∙ item_by B scalar place.offset name (is_local B.locals name) f o g
@@ -80,5 +80,5 @@ pub slot_some : (B : Body) (scalar : Scalar) (offset : ℤ) (g : Global) (n : �
 slot_some B scalar offset g n v c e h = ap (λ u. Some u) h ∙ (λ i. cond (sym c i) (slot_value B scalar g (sym e i)) None)
 
 -- the scalar of a register that was found by its name
-pub scalar_found : (rs : List Register) (name : List ℕ) (r : Option Register) → r ≡ find (λ r. same_name r.name name) rs → scalar_or r ≡ register_scalar rs name
-scalar_found rs name r e = ap scalar_or (e ∙ find_at (λ (r : Register). same_name r.name name) rs)
+pub scalar_found : (rs : List Register) (name : List ℕ) (r : Option Register) → r ≡ find (λ r. bytes_eq r.name name) rs → scalar_or r ≡ register_scalar rs name
+scalar_found rs name r e = ap scalar_or (e ∙ find_at (λ (r : Register). bytes_eq r.name name) rs)

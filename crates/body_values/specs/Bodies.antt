@@ -23,7 +23,7 @@ use Rattle.gimple_ir.specs.declared.statement.Stmt.TheVariants.{Copy, Arith, Com
 use Rattle.gimple_ir.specs.declared.block.Case.{Case}
 use Rattle.gimple_ir.specs.declared.block.End.{End}
 use Rattle.gimple_ir.specs.declared.block.End.TheVariants.{Goto, If, Switch, Return}
-use Rattle.gimple_core.specs.Names.{same_name}
+use Rattle.std.specs.Str.{bytes_eq}
 use Rattle.gimple_core.specs.Layout.{layout_of}
 use Rattle.gimple_core.specs.State.{offset_in}
 use Rattle.gimple_core.specs.Statements.{is_shift, is_add, is_slot_at}
@@ -52,7 +52,7 @@ pub record Body : Type 0 where
 
 -- the number of the first register of a name, or how many there are
 abbrev pub place_of : List Register → List ℕ → ℕ
-place_of rs name = position_or_len (λ r. same_name r.name name) rs
+place_of rs name = position_or_len (λ r. bytes_eq r.name name) rs
 
 abbrev pub scalar_or : Option Register → Scalar
 scalar_or None = Ptr
@@ -73,10 +73,10 @@ brought_or scalar None = top_of scalar
 brought_or scalar (Some a) = brought_into scalar a
 
 abbrev pub is_local : List Decl → List ℕ → Bool
-is_local locals name = list_any (λ d. same_name d.name name) locals
+is_local locals name = list_any (λ d. bytes_eq d.name name) locals
 
 abbrev pub global_place : List Global → List ℕ → Option ℕ
-global_place globals name = position (λ g. same_name g.decl.name name) globals
+global_place globals name = position (λ g. bytes_eq g.decl.name name) globals
 
 -- the value of the address of a global; that of a local is no constant
 abbrev pub global_value : Body → Scalar → Option ℕ → ℤ → AbsVal
@@ -162,7 +162,7 @@ item_value B scalar place = of_base place.base
   where
     of_base : Base → Option AbsVal
     of_base (RegBase name) = None
-    of_base (Variable name) = if is_local B.locals name then None else constant_slot B scalar place.offset (find (λ g. same_name g.decl.name name) B.globals)
+    of_base (Variable name) = if is_local B.locals name then None else constant_slot B scalar place.offset (find (λ g. bytes_eq g.decl.name name) B.globals)
 
 abbrev pub first_value : Option AbsVal → AbsVal → AbsVal
 first_value (Some a) b = a
@@ -235,7 +235,7 @@ register_of x = None
 
 -- two registers that get values, or one that gets what both say
 abbrev pub both_put : List Register → List AbsVal → List ℕ → List ℕ → AbsVal → AbsVal → Lifted (List AbsVal)
-both_put rs row m n a b = if same_name m n then put_value rs row m (abs_met a b) else where_reached (put_value rs row m a) (λ other. put_value rs other n b)
+both_put rs row m n a b = if bytes_eq m n then put_value rs row m (abs_met a b) else where_reached (put_value rs row m a) (λ other. put_value rs other n b)
 
 -- what a taken comparison leaves of the registers at its sides, both by the values before it
 abbrev pub left_sides : Body → Cmp → List AbsVal → Option (List ℕ) → Option (List ℕ) → AbsVal → AbsVal → Lifted (List AbsVal)

@@ -10,7 +10,7 @@ use Rattle.gimple_ir.specs.declared.block.Block.{Block}
 use Rattle.gimple_ir.specs.declared.program.Function.{Function}
 use Rattle.gimple_ir.specs.declared.program.Program.{Program}
 use Rattle.gimple_core.specs.Run.{main_name}
-use Rattle.gimple_core.specs.Sealed.{IsAccepted}
+use Rattle.gimple_core.specs.Accepted.{IsAccepted}
 use Rattle.gimple_ir.specs.Size.{size_of_program, branches_of_function}
 use Rattle.body_values.specs.Found.{OfFunction}
 

@@ -4,7 +4,7 @@ use Rattle.std.specs.List.{list_any}
 use Rattle.gimple_ir.specs.declared.point.Point.{Point}
 use Rattle.gimple_ir.specs.declared.program.Function.{Function}
 use Rattle.gimple_ir.specs.declared.program.Program.{Program}
-use Rattle.gimple_core.specs.Names.{same_name}
+use Rattle.std.specs.Str.{bytes_eq}
 use Rattle.fix_engine.specs.declared.lifted.Lifted.{Lifted}
 use Rattle.fix_engine.specs.declared.lifted.Lifted.TheVariants.{NotReached, Reached}
 use Rattle.value_domain.specs.declared.abs_val.AbsVal.{AbsVal}
@@ -29,7 +29,7 @@ reached_at t at = (at.function == t.function) && is_reached (found_row t.rows at
 pub record IsKnownAt (t : Found) (at : Point) (name : List ℕ) : Type 0 where
   pub function : at.function ≡ t.function
   pub reached : IsReached (found_row t.rows at.block at.index)
-  pub register : list_any (λ r. same_name r.name name) t.registers ≡ true
+  pub register : list_any (λ r. bytes_eq r.name name) t.registers ≡ true
 
 -- there a value is found
 abbrev pub FoundThere : Type 0

@@ -20,7 +20,7 @@ use Rattle.gimple_ir.specs.declared.statement.Stmt.TheVariants.{Copy, Arith, Com
 use Rattle.gimple_ir.specs.declared.block.Case.{Case}
 use Rattle.gimple_ir.specs.declared.block.End.{End}
 use Rattle.gimple_ir.specs.declared.block.End.TheVariants.{Goto, If, Switch, Return}
-use Rattle.gimple_core.specs.Names.{same_name}
+use Rattle.std.specs.Str.{bytes_eq}
 use Rattle.gimple_core.specs.Layout.{layout_of}
 use Rattle.gimple_core.specs.Statements.{is_shift, is_add}
 use Rattle.gimple_core.specs.State.{offset_in}
@@ -243,7 +243,7 @@ module _ (B : Body) (law : IsLawful B.ends) where
     where
       by : (b : Base) → IfSome (item_value B scalar (record place { base = b })) (IsGood B.most B.ends scalar)
       by (RegBase name) = tt
-      by (Variable name) = unless_fits scalar (is_local B.locals name) _ (constant_slot_fits scalar place.offset (find (λ g. same_name g.decl.name name) B.globals))
+      by (Variable name) = unless_fits scalar (is_local B.locals name) _ (constant_slot_fits scalar place.offset (find (λ g. bytes_eq g.decl.name name) B.globals))
 
   first_good : (scalar : Scalar) (o : Option AbsVal) (b : AbsVal) → IfSome o (IsGood B.most B.ends scalar) → IsGood B.most B.ends scalar b → IsGood B.most B.ends scalar (first_value o b)
   first_good scalar None b h g = g
@@ -376,7 +376,7 @@ module _ (B : Body) (law : IsLawful B.ends) where
             (λ f w. (put_rises f f p _ _ (self f w) (plain scalar _ _ (stays B.most B.ends scalar _ right.upper))).upper)
 
         by : (m n : Option (List ℕ)) → FilesRise B (left_sides B cmp x m n a b) (left_sides B cmp y m n c d)
-        by (Some o) (Some p) = two_sides o p (same_name o p)
+        by (Some o) (Some p) = two_sides o p (bytes_eq o p)
         by (Some o) None = put_rises x y o _ _ r (plain scalar _ _ left)
         by None (Some p) = put_rises x y p _ _ r (plain scalar _ _ right)
         by None None = reached x y r

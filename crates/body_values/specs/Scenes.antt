@@ -1,6 +1,6 @@
 -- What the code has of a body.
 use Rattle.std.specs.Prelude.{◌≡◌, ℕ, ◌<◌, ◌≤◌, ◌^◌, List, length, Some, find}
-use Rattle.gimple_core.specs.Names.{same_name}
+use Rattle.std.specs.Str.{bytes_eq}
 use Rattle.gimple_ir.specs.declared.declarations.Global.{Global}
 use Rattle.gimple_core.specs.Layout.{layout_of}
 use Rattle.gimple_ir.specs.declared.scalar.Scalar.{Scalar}
@@ -36,7 +36,7 @@ pub record IsGoodIn (s : Scene) (scalar : Scalar) (a : AbsVal) : Type 0 where
 
 -- each global has at most 2^24 bytes
 abbrev pub HasSmallGlobals : Scene → Type 0
-HasSmallGlobals s = (name : List ℕ) (g : Global) → find (λ g. same_name g.decl.name name) s.globals.now ≡ Some g → (layout_of s.structs.now g.decl).size ≤ 2 ^ 24
+HasSmallGlobals s = (name : List ℕ) (g : Global) → find (λ g. bytes_eq g.decl.name name) s.globals.now ≡ Some g → (layout_of s.structs.now g.decl).size ≤ 2 ^ 24
 
 -- globals have numbers and are small, and the facts of loads fit
 pub record IsReady (s : Scene) : Type 0 where

@@ -14,7 +14,7 @@ use crate::scene::{Scene, offset_of, pointer, scalar_of};
 use fix_engine::Rows;
 use gimple_core::{
     Base, Constant, Global as Variable, Operand, OutOfMemory, Place, Point, Scalar, Stmt, Text,
-    same_name,
+    bytes_eq,
 };
 use value_domain::{AbsVal, exactly, into_scalar, top};
 

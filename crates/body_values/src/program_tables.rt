@@ -2,8 +2,8 @@
 
 ghost use Rattle.std.specs.Prelude.{◌≡◌, IfOk, find};
 ghost use Rattle.std.specs.Option.{option_copied};
-ghost use Rattle.gimple_core.specs.Names.{same_name};
-ghost use Rattle.gimple_core.specs.Sealed.{IsAccepted};
+ghost use Rattle.std.specs.Str.{bytes_eq};
+ghost use Rattle.gimple_core.specs.Accepted.{IsAccepted};
 ghost use Rattle.value_domain.specs.Thresholds.{thresholds_list};
 
 use gimple_core::{Checked, Function, OutOfMemory, Params, Program, Text};
@@ -104,7 +104,7 @@ impl<'a> ProgramTables<'a> {
 
     /// The first function of a name; None exactly where no function has it.
     pub fn named_function(&self, name: &Text) -> Option<&'a Function>
-        ensures { option_copied result ≡ find (λ f. same_name f.name name.now) self.now.program.functions }
+        ensures { option_copied result ≡ find (λ f. bytes_eq f.name name.now) self.now.program.functions }
     {
         self.functions.named(name)
     }

@@ -11,7 +11,6 @@ use Rattle.gimple_ir.specs.declared.declarations.Global.{Global}
 use Rattle.gimple_ir.specs.declared.program.Function.{Function}
 use Rattle.gimple_ir.specs.declared.program.Program.{Program}
 use Rattle.gimple_ir.specs.declared.fault.Site.TheVariants as site
-use Rattle.gimple_core.specs.Names.{same_name}
 use Rattle.gimple_core.specs.Run.{Calling, call_of, main_name}
 use Rattle.gimple_core.specs.Reach.{CallIn, CallInBlocks}
 use Rattle.gimple_core.specs.Verdict.{demand, found, at}
@@ -19,7 +18,7 @@ use Rattle.gimple_core.specs.Env.{Env, Names, named, has, functions_by_name, glo
 use Rattle.gimple_core.specs.Statements as s
 use Rattle.gimple_core.specs.Declarations as d
 use Rattle.gimple_core.specs.Accepted.{first_fault, checked, known_env}
-use Rattle.gimple_core.specs.Sealed.{IsAccepted}
+use Rattle.gimple_core.specs.Accepted.{IsAccepted}
 use Rattle.gimple_core.proofs.Passed.{first_passed, at_passed, found_so, no_fault}
 use Rattle.gimple_core.proofs.EnvLemmas.{same_test, declared_new, named_here}
 use Rattle.gimple_core.proofs.KeptAccepted.{heads_are}
@@ -85,7 +84,7 @@ functions_have known callees number (suc k) (g ∷ fs) f name h e r =
 has_number : (fs : List Function) (name : List ℕ) → has name (functions_by_name fs) ≡ true → number_in (map (λ f. f.name) fs) name < length fs
 unfolding number_in
 has_number [] name h = cc h
-has_number (f ∷ fs) name h = by (bytes_eq name f.name) (same_name f.name name) (same_test name f.name) (has_number fs name) h
+has_number (f ∷ fs) name h = by (bytes_eq name f.name) (bytes_eq f.name name) (same_test name f.name) (has_number fs name) h
   where
     by : (a b : Bool) → a ≡ b → (has name (functions_by_name fs) ≡ true → number_in (map (λ g. g.name) fs) name < length fs) → is_some (cond a (Some f) (named name (functions_by_name fs))) ≡ true → cond (not b) (1 + number_in (map (λ g. g.name) fs) name) 0 < length (f ∷ fs)
     by a true e more k = omega arith

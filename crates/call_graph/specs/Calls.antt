@@ -7,7 +7,7 @@ use Rattle.gimple_ir.specs.declared.point.Point.{Point}
 use Rattle.gimple_ir.specs.declared.program.Function.{Function}
 use Rattle.gimple_ir.specs.declared.program.Program.{Program}
 use Rattle.gimple_ir.specs.declared.statement.Stmt.{Stmt}
-use Rattle.gimple_core.specs.Names.{same_name}
+use Rattle.std.specs.Str.{bytes_eq}
 use Rattle.gimple_core.specs.Run.{Calling, call_of, main_name}
 use Rattle.gimple_core.specs.Reach.{CallInBlocks}
 
@@ -21,7 +21,7 @@ AreDistinct names = (i j : ℕ) → i < length names → j < length names → sl
 
 -- the number of the function of a name
 unfoldable pub number_in : List (List ℕ) → List ℕ → ℕ
-number_in names name = position_or_len (λ n. same_name n name) names
+number_in names name = position_or_len (λ n. bytes_eq n name) names
 
 -- the edge of a call at a point, if there is one
 abbrev pub call_edges : List (List ℕ) → Point → Option Calling → List Edge

@@ -1,7 +1,7 @@
 //! The numbers of functions by their names.
 
 ghost use Rattle.std.specs.Prelude.{◌≡◌, map};
-ghost use Rattle.gimple_core.specs.Names.{same_name};
+ghost use Rattle.std.specs.Str.{bytes_eq};
 ghost use Rattle.gimple_core.specs.Run.{main_name};
 ghost use Rattle.call_graph.specs.Calls.{number_in};
 
@@ -33,7 +33,7 @@ pub fn main_number(functions: &[Function]) -> usize
 
 #[tactic(auto, using(gimple_core::proofs::EnvLemmas::same_test))]
 fn is_main(function: &Function) -> bool
-    ensures { result ≡ same_name function.now.name main_name }
+    ensures { result ≡ bytes_eq function.now.name main_name }
 {
     b"main".as_slice() == function.name.as_slice()
 }

@@ -13,7 +13,7 @@ use Rattle.gimple_core.specs.Memory.{Memory, without_frame}
 use Rattle.gimple_core.specs.State.{Control, Frame, World, State, scope_of}
 use Rattle.gimple_core.specs.Run.{start, Calling, call_of, act, acted, performed, Moves, Stops, Traps, Did, Goes, Reaches, CallEntry, CallReturn, Jump, finish, resumed, stepped, step, entered, enter, jumped, target_of, returned, return_value, given, block_at, block_place, place_or, control_made, cells_made, with_locals, with_globals, no_memory, values_of, function_named, main_name, begun, begun_by}
 use Rattle.std.specs.List.{find}
-use Rattle.gimple_core.specs.Names.{same_name}
+use Rattle.std.specs.Str.{bytes_eq}
 use Rattle.gimple_core.proofs.NameLemmas.{same_name_true}
 use Rattle.gimple_claims.specs.Exits.{Returns, exit_of}
 use Rattle.gimple_core.specs.Trace.{Event, Entry, At, told_by, told, main_entry, after}
@@ -47,7 +47,7 @@ told_call p x xs s t c e d = rw (no_access p.globals x s c e, d, e) refl
 -- a function that is found is found by its own name
 pub own_name : (name : List ℕ) (fs : List Function) (g : Function) → function_named name fs ≡ Some g → function_named g.name fs ≡ Some g
 unfolding function_named
-own_name name fs g e = let same : g.name ≡ name = same_name_true g.name name (found_test (λ f. same_name f.name name) fs g e) in subst (λ n. find (λ f. same_name f.name n) fs ≡ Some g) (sym same) e
+own_name name fs g e = let same : g.name ≡ name = same_name_true g.name name (found_test (λ f. bytes_eq f.name name) fs g e) in subst (λ n. find (λ f. bytes_eq f.name n) fs ≡ Some g) (sym same) e
 
 -- ---- the invariant
 

@@ -7,7 +7,7 @@ use Rattle.gimple_ir.specs.declared.block.Block.{Block}
 use Rattle.gimple_ir.specs.declared.program.Function.{Function}
 use Rattle.gimple_ir.specs.declared.program.Program.{Program}
 use Rattle.gimple_core.specs.declared.machine.Cell.{Cell}
-use Rattle.gimple_core.specs.Names.{same_name}
+use Rattle.std.specs.Str.{bytes_eq}
 use Rattle.gimple_core.specs.State.{World, State, assigned, scope_of}
 use Rattle.gimple_core.specs.Run.{Did, step, given, cells_made, function_named, main_name, begun, begun_by}
 use Rattle.gimple_core.specs.Trace.{Event, told, after}
@@ -18,7 +18,7 @@ use Rattle.gimple_claims.proofs.Acts.{Acts, assigns, takes, prints, stores, acts
 use Rattle.gimple_claims.proofs.Lists.{map_updated}
 
 assigned_keys : (cells : List Cell) (name : List ℕ) (v : Value) → keys (assigned cells name v) ≡ keys cells
-assigned_keys cells name v = map_updated (λ c. record { name = c.name; scalar = c.scalar }) (λ c. same_name c.name name) (λ c. record c { value = v }) (λ c. refl) cells
+assigned_keys cells name v = map_updated (λ c. record { name = c.name; scalar = c.scalar }) (λ c. bytes_eq c.name name) (λ c. record c { value = v }) (λ c. refl) cells
 
 acted_keys : (m w : World) → Acts m w → keys w.cells ≡ keys m.cells
 acted_keys m _ (assigns to v) = assigned_keys m.cells to v

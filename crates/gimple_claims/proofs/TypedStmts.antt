@@ -19,7 +19,7 @@ use Rattle.gimple_core.specs.declared.machine.Cell.{Cell}
 use Rattle.gimple_core.specs.declared.machine.MemorySlot.{MemorySlot}
 use Rattle.gimple_core.specs.declared.machine.Extent.{Extent}
 use Rattle.gimple_core.specs.declared.machine.FoundSlot.{FoundSlot}
-use Rattle.gimple_core.specs.Names.{same_name}
+use Rattle.std.specs.Str.{bytes_eq}
 use Rattle.gimple_core.specs.Operators.{in_scalar}
 use Rattle.gimple_core.specs.Memory.{Memory, found_at, found_extent, found_offset, found_slot, put_slot, is_slot, same_object, same_scalar}
 use Rattle.gimple_core.specs.State.{World, Scope, assigned}
@@ -43,7 +43,7 @@ pub record WorldTyped (m : World) : Type 0 where
 -- a value of its scalar put into a register
 pub assigned_is : (cells : List Cell) (name : List ℕ) (scalar : Scalar) (v : Value) → cells_typed cells ≡ true → HasCell cells name scalar → is_of scalar v ≡ true → cells_typed (assigned cells name v) ≡ true
 assigned_is cells name scalar v t c h =
-    all_updated (λ (x : Cell). is_of x.scalar x.value) (λ (x : Cell). same_name x.name name) (λ (x : Cell). record x { value = v }) cells t
+    all_updated (λ (x : Cell). is_of x.scalar x.value) (λ (x : Cell). bytes_eq x.name name) (λ (x : Cell). record x { value = v }) cells t
     (λ x e. let both : Some x ≡ Some c.cell = sym e ∙ c.found in let same : x ≡ c.cell = cc in ap (λ (y : Cell). is_of y.scalar v) same ∙ (ap (λ a. is_of a v) c.scalar_is ∙ h))
 
 -- ---- memory

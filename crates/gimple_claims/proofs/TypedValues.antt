@@ -15,7 +15,7 @@ use Rattle.gimple_ir.specs.declared.value.TrapKind.{TrapKind}
 use Rattle.gimple_ir.specs.declared.program.Function.{Function}
 use Rattle.gimple_ir.specs.declared.program.Program.{Program}
 use Rattle.gimple_core.specs.declared.machine.Cell.{Cell}
-use Rattle.gimple_core.specs.Names.{same_name}
+use Rattle.std.specs.Str.{bytes_eq}
 use Rattle.gimple_core.specs.Operators.{in_scalar, op_of}
 use Rattle.gimple_core.specs.Memory.{moved_by}
 use Rattle.gimple_core.specs.State.{Scope, cell_of, cell_value, cell_scalar, value_in, scalar_in, number_in, offset_in, zero_of}
@@ -97,7 +97,7 @@ local_is serial (Some k) v e = refl
 
 address_is : (globals : List Global) (scope : Scope) (name : List ℕ) → is_of Ptr (address_of globals scope name) ≡ true
 unfolding address_of
-address_is globals scope name = local_is scope.serial (position (λ d. same_name d.name name) scope.locals) (address_of_global globals name) (address_of_global_is globals name)
+address_is globals scope name = local_is scope.serial (position (λ d. bytes_eq d.name name) scope.locals) (address_of_global globals name) (address_of_global_is globals name)
 
 -- ---- registers
 
@@ -110,10 +110,10 @@ later_keys [] = []
 later_keys (k ∷ ks) = ks
 
 -- a register that the function has, among its cells
-cell_found : (rs : List Register) (cells : List Cell) (name : List ℕ) (r : Register) → keys cells ≡ rs → find (λ x. same_name x.name name) rs ≡ Some r → (c : Cell) × (cell_of name cells ≡ Some c) × (c.scalar ≡ r.scalar)
+cell_found : (rs : List Register) (cells : List Cell) (name : List ℕ) (r : Register) → keys cells ≡ rs → find (λ x. bytes_eq x.name name) rs ≡ Some r → (c : Cell) × (cell_of name cells ≡ Some c) × (c.scalar ≡ r.scalar)
 cell_found [] cells name r k e = cc
 cell_found (x ∷ rs) [] name r k e = cc
-cell_found (x ∷ rs) (c ∷ cells) name r k e = by (same_name x.name name) (same_name c.name name) (ap (λ n. same_name n name) (sym same_names)) e (cell_found rs cells name r rest)
+cell_found (x ∷ rs) (c ∷ cells) name r k e = by (bytes_eq x.name name) (bytes_eq c.name name) (ap (λ n. bytes_eq n name) (sym same_names)) e (cell_found rs cells name r rest)
   where
     same_names : c.name ≡ x.name
     same_names = ap (λ ks. (first_key (record { name = name; scalar = Ptr }) ks).name) k
@@ -124,7 +124,7 @@ cell_found (x ∷ rs) (c ∷ cells) name r k e = by (same_name x.name name) (sam
     rest : keys cells ≡ rs
     rest = ap later_keys k
 
-    by : (a b : Bool) → a ≡ b → (if a then Some x else find (λ y. same_name y.name name) rs) ≡ Some r → (find (λ y. same_name y.name name) rs ≡ Some r → (d : Cell) × (cell_of name cells ≡ Some d) × (d.scalar ≡ r.scalar)) → (d : Cell) × ((if b then Some c else cell_of name cells) ≡ Some d) × (d.scalar ≡ r.scalar)
+    by : (a b : Bool) → a ≡ b → (if a then Some x else find (λ y. bytes_eq y.name name) rs) ≡ Some r → (find (λ y. bytes_eq y.name name) rs ≡ Some r → (d : Cell) × (cell_of name cells ≡ Some d) × (d.scalar ≡ r.scalar)) → (d : Cell) × ((if b then Some c else cell_of name cells) ≡ Some d) × (d.scalar ≡ r.scalar)
     by true true t f more = let same : x ≡ r = cc in (c, refl, same_scalars ∙ ap (λ (y : Register). y.scalar) same)
     by true false t f more = cc
     by false true t f more = cc

@@ -9,9 +9,9 @@ use Rattle.gimple_ir.specs.declared.declarations.Global.{Global}
 use Rattle.gimple_ir.specs.declared.declarations.Register.{Register}
 use Rattle.gimple_ir.specs.declared.program.Function.{Function}
 use Rattle.gimple_ir.specs.declared.program.Program.{Program}
-use Rattle.gimple_core.specs.Names.{same_name}
+use Rattle.std.specs.Str.{bytes_eq}
 use Rattle.gimple_core.specs.Layout.{layout_of, count_of, HasLayout}
-use Rattle.gimple_core.specs.Sealed.{IsAccepted}
+use Rattle.gimple_core.specs.Accepted.{IsAccepted}
 use Rattle.gimple_core.specs.Env.{Env, Names, has, declared, structs_by_name, globals_by_name}
 use Rattle.gimple_core.specs.Verdict.{demand, at}
 use Rattle.gimple_ir.specs.declared.fault.Site.TheVariants as site
@@ -170,5 +170,5 @@ found_satisfies P test (x ∷ xs) y h e = by (test x) (All-head P x xs h) (λ k.
     by true h k e = let same : x ≡ y = cc in subst P same h
     by false h k e = k e
 
-pub global_layout : (p : Program) → IsAccepted p → (name : List ℕ) (g : Global) → find (λ g. same_name g.decl.name name) p.globals ≡ Some g → HasLayout p.structs g.decl
-global_layout p accepted name g e = found_satisfies (λ g. HasLayout p.structs g.decl) (λ g. same_name g.decl.name name) p.globals g (global_layouts p accepted) e
+pub global_layout : (p : Program) → IsAccepted p → (name : List ℕ) (g : Global) → find (λ g. bytes_eq g.decl.name name) p.globals ≡ Some g → HasLayout p.structs g.decl
+global_layout p accepted name g e = found_satisfies (λ g. HasLayout p.structs g.decl) (λ g. bytes_eq g.decl.name name) p.globals g (global_layouts p accepted) e

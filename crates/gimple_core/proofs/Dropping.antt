@@ -10,7 +10,7 @@ use Rattle.gimple_ir.specs.declared.declarations.Global.{Global}
 use Rattle.gimple_ir.specs.declared.program.Function.{Function}
 use Rattle.gimple_ir.specs.declared.declarations.StructDef.{StructDef}
 use Rattle.gimple_ir.specs.declared.program.Program.{Program}
-use Rattle.gimple_core.specs.Names.{same_name}
+use Rattle.std.specs.Str.{bytes_eq}
 use Rattle.gimple_ir.specs.declared.value.TrapKind.{TrapKind}
 use Rattle.gimple_core.specs.State.{Control, Frame, World, State, scope_of}
 use Rattle.gimple_core.specs.Run.{Calling, call_of, call, Reached, Moves, Stops, Traps, performed, act, acted, resumed, finish, jump, jumped, returned, entered, enter, function_named, main_name, begun, begun_by, runs_from, Run}
@@ -183,7 +183,7 @@ unfolding function_named
 kept_runs p keeps closed input n =
     run_same (λ name. IsTrue (keeps name)) p (filter (λ f. keeps f.name) p.functions)
     (record { begins = closed.main; calls = λ name f k e callee c. closed.calls name f callee k e c })
-    (λ name k. first_kept (λ (f : Function). same_name f.name name) (λ (f : Function). keeps f.name) (λ f t. rw (same_name_true f.name name t) k) p.functions)
+    (λ name k. first_kept (λ (f : Function). bytes_eq f.name name) (λ (f : Function). keeps f.name) (λ f t. rw (same_name_true f.name name t) k) p.functions)
     input n
 
 -- the reached functions are a closed set

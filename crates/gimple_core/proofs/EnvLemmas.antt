@@ -3,28 +3,27 @@ use Rattle.std.proofs.Common.{◌≡◌, ℕ, Bool, true, false, cond, ◌||◌,
 use Rattle.std.specs.List.{find}
 use Rattle.std.specs.Str.{bytes_eq}
 use Rattle.std.specs.Cmp.Lexicographic.{bytes_decides}
-use Rattle.gimple_core.specs.Names.{same_name}
 use Rattle.gimple_core.specs.Env.{Names, named, has, declared, new_or_twice}
 use Rattle.gimple_core.proofs.NameLemmas.{same_name_true, same_name_self}
 use Rattle.gimple_core.proofs.Passed.{err_no}
 
 -- the two tests of names are one
-pub same_test : (name other : List ℕ) → bytes_eq name other ≡ same_name other name
-same_test name other = by (bytes_eq name other) (same_name other name) refl refl
+pub same_test : (name other : List ℕ) → bytes_eq name other ≡ bytes_eq other name
+same_test name other = by (bytes_eq name other) (bytes_eq other name) refl refl
   where
-    by : (a b : Bool) → bytes_eq name other ≡ a → same_name other name ≡ b → a ≡ b
+    by : (a b : Bool) → bytes_eq name other ≡ a → bytes_eq other name ≡ b → a ≡ b
     by true true e h = refl
     by false false e h = refl
-    by true false e h = sym (same_name_self other) ∙ ap (λ n. same_name other n) (sym ((bytes_decides name other).0 e)) ∙ h
+    by true false e h = sym (same_name_self other) ∙ ap (λ n. bytes_eq other n) (sym ((bytes_decides name other).0 e)) ∙ h
     by false true e h = sym e ∙ (bytes_decides name other).1 (sym (same_name_true other name h))
 
 module _ {T : Type 0} where
   -- the first item of a name, in a table and in a list
-  pub named_find : (key : T → List ℕ) (name : List ℕ) (xs : List T) → named name (map (λ x. (key x, x)) xs) ≡ find (λ x. same_name (key x) name) xs
+  pub named_find : (key : T → List ℕ) (name : List ℕ) (xs : List T) → named name (map (λ x. (key x, x)) xs) ≡ find (λ x. bytes_eq (key x) name) xs
   named_find key name [] = refl
-  named_find key name (x ∷ xs) = by (bytes_eq name (key x)) (same_name (key x) name) (same_test name (key x)) (named_find key name xs)
+  named_find key name (x ∷ xs) = by (bytes_eq name (key x)) (bytes_eq (key x) name) (same_test name (key x)) (named_find key name xs)
     where
-      by : (a b : Bool) → a ≡ b → named name (map (λ x. (key x, x)) xs) ≡ find (λ x. same_name (key x) name) xs → cond a (Some x) (named name (map (λ x. (key x, x)) xs)) ≡ (if b then Some x else find (λ x. same_name (key x) name) xs)
+      by : (a b : Bool) → a ≡ b → named name (map (λ x. (key x, x)) xs) ≡ find (λ x. bytes_eq (key x) name) xs → cond a (Some x) (named name (map (λ x. (key x, x)) xs)) ≡ (if b then Some x else find (λ x. bytes_eq (key x) name) xs)
       by true true e h = refl
       by true false e h = cc
       by false true e h = cc

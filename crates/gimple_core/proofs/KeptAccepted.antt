@@ -11,7 +11,6 @@ use Rattle.gimple_ir.specs.declared.declarations.Register.{Register}
 use Rattle.gimple_ir.specs.declared.program.Function.{Function}
 use Rattle.gimple_ir.specs.declared.program.Program.{Program}
 use Rattle.gimple_ir.specs.declared.fault.Site.TheVariants as site
-use Rattle.gimple_core.specs.Names.{same_name}
 use Rattle.gimple_core.specs.Run.{Calling, call_of, function_named, main_name}
 use Rattle.gimple_core.specs.Reach.{CallIn, CallInBlocks, IsClosed, IsWithoutUnreached, with_kept}
 use Rattle.gimple_core.specs.Verdict.{demand, at}
@@ -225,7 +224,7 @@ functions_kept known keep some more number place (f ∷ fs) fewer a h =
 kept_agrees : (keeps : List ℕ → Bool) (fs : List Function) (name : List ℕ) → IsTrue (keeps name) → Agrees (functions_by_name (filter (λ f. keeps f.name) fs)) (functions_by_name fs) name
 kept_agrees keeps fs name k =
     named_find (λ f. f.name) name (filter (λ f. keeps f.name) fs)
-    ∙ first_kept (λ (f : Function). same_name f.name name) (λ (f : Function). keeps f.name) (λ f t. rw (same_name_true f.name name t) k) fs
+    ∙ first_kept (λ (f : Function). bytes_eq f.name name) (λ (f : Function). keeps f.name) (λ f t. rw (same_name_true f.name name t) k) fs
     ∙ sym (named_find (λ f. f.name) name fs)
 
 -- the calls of the kept functions stay within the set

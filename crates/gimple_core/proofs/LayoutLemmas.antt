@@ -16,7 +16,7 @@ use Rattle.gimple_ir.specs.declared.declarations.StructDef.{StructDef}
 use Rattle.gimple_ir.specs.declared.value.LayoutSlot.{LayoutSlot}
 use Rattle.gimple_ir.specs.declared.value.Layout.{Layout}
 use Rattle.gimple_core.specs.declared.layout.KnownLayout.{KnownLayout}
-use Rattle.gimple_core.specs.Names.{same_name}
+use Rattle.std.specs.Str.{bytes_eq}
 use Rattle.gimple_core.specs.Layout.{empty_layout, round_up, moved, known_layout, shape_layout, repeated, count_of, array_layout, decl_layout, with_field, with_fields, struct_layouts, IsLayout}
 
 -- ---- rounding
@@ -82,7 +82,7 @@ found_is test (x ∷ xs) h =
 
 shape_is : (known : List KnownLayout) (shape : Shape) → All (λ k. IsLayout k.layout) known → IsLayout (shape_layout known shape)
 shape_is known (Plain scalar) h = plain_is known scalar
-shape_is known (Named name) h = found_is (λ k. same_name k.name name) known h
+shape_is known (Named name) h = found_is (λ k. bytes_eq k.name name) known h
 
 pub decl_is : (known : List KnownLayout) (d : Decl) → All (λ k. IsLayout k.layout) known → IsLayout (decl_layout known d)
 decl_is known d h = array_is (count_of d.length) (shape_layout known d.shape) (shape_is known d.shape h)
@@ -179,6 +179,6 @@ pub plain_same : (known more : List KnownLayout) (d : Decl) (scalar : Scalar) �
 plain_same known more d scalar e =
     ap (array_layout (count_of d.length)) (ap (shape_layout known) e ∙ sym (ap (shape_layout more) e))
 
-pub named_same : (known more : List KnownLayout) (d : Decl) (name : List ℕ) → d.shape ≡ Named name → find (λ k. same_name k.name name) known ≡ find (λ k. same_name k.name name) more → decl_layout known d ≡ decl_layout more d
+pub named_same : (known more : List KnownLayout) (d : Decl) (name : List ℕ) → d.shape ≡ Named name → find (λ k. bytes_eq k.name name) known ≡ find (λ k. bytes_eq k.name name) more → decl_layout known d ≡ decl_layout more d
 named_same known more d name e f =
     ap (array_layout (count_of d.length)) (ap (shape_layout known) e ∙ ap known_layout f ∙ sym (ap (shape_layout more) e))

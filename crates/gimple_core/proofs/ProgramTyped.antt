@@ -12,7 +12,6 @@ use Rattle.gimple_ir.specs.declared.declarations.Register.{Register}
 use Rattle.gimple_ir.specs.declared.program.Function.{Function}
 use Rattle.gimple_ir.specs.declared.program.Program.{Program}
 use Rattle.gimple_ir.specs.declared.fault.Site.TheVariants as site
-use Rattle.gimple_core.specs.Names.{same_name}
 use Rattle.gimple_core.specs.Run.{function_named, main_name}
 use Rattle.gimple_core.specs.Layout.{layout_of}
 use Rattle.gimple_core.specs.Verdict.{Verdict, demand, at}
@@ -139,7 +138,7 @@ main_is (r ∷ rs) result h = cc
 main_so : (number : ℕ) (fs : List Function) → d.main number fs ≡ Ok tt → (f : Function) × (function_named main_name fs ≡ Some f) × (f.params ≡ []) × (f.result ≡ Some I32)
 unfolding d.main function_named
 main_so number [] h = absurd (err_no h)
-main_so number (f ∷ fs) h = by (bytes_eq main_name f.name) (same_name f.name main_name) (same_test main_name f.name) (main_so (number + 1) fs) h
+main_so number (f ∷ fs) h = by (bytes_eq main_name f.name) (bytes_eq f.name main_name) (same_test main_name f.name) (main_so (number + 1) fs) h
   where
     by : (a b : Bool) → a ≡ b
         → (d.main (number + 1) fs ≡ Ok tt → (g : Function) × (function_named main_name fs ≡ Some g) × (g.params ≡ []) × (g.result ≡ Some I32))

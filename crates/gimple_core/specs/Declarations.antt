@@ -1,5 +1,6 @@
 -- The checks of structs, globals, and the names of functions, in their order.
-use Rattle.std.specs.Prelude.{ℕ, ◌+◌, ◌==◌, Bool, true, false, not, List, [], ◌∷◌, ◌++◌, length, nat_le, Option, Some, Err, if◌then◌else◌}
+use Rattle.std.specs.Ordering.{int_eq}
+use Rattle.std.specs.Prelude.{ℕ, ◌+◌, ◌==◌, ℤ, pos, Bool, true, false, not, ◌||◌, List, [], ◌∷◌, ◌++◌, length, nat_le, Option, Some, Err, if◌then◌else◌}
 use Rattle.std.specs.List.{list_any}
 use Rattle.std.specs.Str.{bytes_eq}
 use Rattle.gimple_ir.specs.declared.scalar.Scalar.{Scalar}
@@ -19,7 +20,7 @@ use Rattle.gimple_ir.specs.declared.fault.Site.TheVariants as site
 use Rattle.gimple_core.specs.Operators.{in_scalar}
 use Rattle.gimple_core.specs.Layout.{empty_layout, count_of, with_fields, struct_layouts, layout_of}
 use Rattle.gimple_core.specs.Verdict.{Verdict, Judgement, ◌>>=◌, ◌>>◌, pure, demand, at}
-use Rattle.gimple_core.specs.Env.{Env, Names, has, declared, structs_by_name}
+use Rattle.gimple_core.specs.Env.{Env, Names, Targets, is_target, has, declared, structs_by_name}
 use Rattle.gimple_core.specs.Statements.{is_pointer, blocks}
 use Rattle.gimple_core.specs.Run.{main_name}
 
@@ -82,40 +83,41 @@ structs all number earlier (s ∷ ss) = do
 -- ---- globals
 
 -- an item against the scalar of its slot; a name of a register has no meaning here
-unfoldable pub item : Names Global → Scalar → Operand → Verdict (Unit {0})
-item all scalar (Reg name) = Err 1
-item all scalar (Number z) = do
+unfoldable pub item : Targets → Names Global → Scalar → Operand → Verdict (Unit {0})
+item targets all scalar (Reg name) = Err 1
+item targets all scalar (Number z) = do
   demand (not (is_pointer scalar)) 4
   demand (in_scalar scalar z) 13
-item all scalar Null = demand (is_pointer scalar) 4
-item all scalar (Address name offset) = do
+item targets all scalar Null = demand (is_pointer scalar) 4
+item targets all scalar (Address name offset) = do
   demand (is_pointer scalar) 4
   demand (in_scalar I64 offset) 13
-  demand (has name all) 1
+  demand (has name all || not (is_target targets name) || int_eq offset (pos 0)) 11
+  demand (has name all || is_target targets name) 1
 
 -- each item against its slot
-unfoldable pub items : Names Global → List LayoutSlot → List Operand → Verdict (Unit {0})
-items all (slot ∷ slots) (x ∷ xs) = do
-  item all slot.scalar x
-  items all slots xs
-items all slots [] = pure tt
-items all [] (x ∷ xs) = pure tt
+unfoldable pub items : Targets → Names Global → List LayoutSlot → List Operand → Verdict (Unit {0})
+items targets all (slot ∷ slots) (x ∷ xs) = do
+  item targets all slot.scalar x
+  items targets all slots xs
+items targets all slots [] = pure tt
+items targets all [] (x ∷ xs) = pure tt
 
-unfoldable pub one_global : List StructDef → Names Global → Names Global → Global → Verdict (Names Global)
-one_global structs all earlier g = do
+unfoldable pub one_global : List StructDef → Targets → Names Global → Names Global → Global → Verdict (Names Global)
+one_global structs targets all earlier g = do
   more ← declared earlier g.decl.name g
   known_shape (structs_by_name structs) g.decl.shape
   sized structs g.decl
   demand (nat_le (length g.items) (length (layout_of structs g.decl).slots)) 11
-  items all (layout_of structs g.decl).slots g.items
+  items targets all (layout_of structs g.decl).slots g.items
   pure more
 
 -- each global, after earlier ones
-unfoldable pub globals : List StructDef → Names Global → ℕ → Names Global → List Global → Judgement (Names Global)
-globals structs all number earlier [] = pure earlier
-globals structs all number earlier (g ∷ gs) = do
-  more ← at (site.Global number) (one_global structs all earlier g)
-  globals structs all (number + 1) more gs
+unfoldable pub globals : List StructDef → Targets → Names Global → ℕ → Names Global → List Global → Judgement (Names Global)
+globals structs targets all number earlier [] = pure earlier
+globals structs targets all number earlier (g ∷ gs) = do
+  more ← at (site.Global number) (one_global structs targets all earlier g)
+  globals structs targets all (number + 1) more gs
 
 -- ---- heads of functions
 

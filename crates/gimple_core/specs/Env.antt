@@ -1,5 +1,5 @@
 -- What names mean in a function.
-use Rattle.std.specs.Prelude.{ℕ, Bool, true, false, ◌||◌, List, [], ◌∷◌, ◌++◌, map, is_some, Option, Some, None, Ok, Err}
+use Rattle.std.specs.Prelude.{ℕ, ◌==◌, if◌then◌else◌, Bool, true, false, ◌||◌, List, [], ◌∷◌, ◌++◌, map, is_some, Option, Some, None, Ok, Err}
 use Rattle.std.specs.Str.{bytes_eq}
 use Rattle.std.specs.Map.{lookup}
 use Rattle.gimple_ir.specs.declared.scalar.Scalar.{Scalar}
@@ -8,6 +8,7 @@ use Rattle.gimple_ir.specs.declared.declarations.StructDef.{StructDef}
 use Rattle.gimple_ir.specs.declared.declarations.Global.{Global}
 use Rattle.gimple_ir.specs.declared.declarations.Register.{Register}
 use Rattle.gimple_ir.specs.declared.program.Function.{Function}
+use Rattle.gimple_ir.specs.declared.program.Program.{Program}
 use Rattle.gimple_core.specs.Verdict.{Verdict, ◌>>=◌, pure, found}
 
 -- items under their names, in file order
@@ -44,8 +45,20 @@ decls_by_name ds = map (λ d. (d.name, d)) ds
 abbrev pub registers_by_name : List Register → Names Register
 registers_by_name rs = map (λ r. (r.name, r)) rs
 
--- what a function sees besides other functions: structs and globals, and its own locals, registers, labels and result
+-- the functions that may be addressed, and called through registers: those of a program of profile 2, none elsewhere
+abbrev pub Targets : Type 0
+Targets = Option (Names Function)
+
+abbrev pub targets_of : Program → Targets
+targets_of p = if p.profile == 2 then Some (functions_by_name p.functions) else None
+
+abbrev pub is_target : Targets → List ℕ → Bool
+is_target None name = false
+is_target (Some functions) name = has name functions
+
+-- what a function sees besides the functions that it calls by name: structs, globals and functions that may be addressed, and its own locals, registers, labels and result
 pub record Env : Type 0 where
+  pub targets : Targets
   pub structs : List StructDef
   pub globals : Names Global
   pub locals : Names Decl

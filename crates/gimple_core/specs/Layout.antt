@@ -8,7 +8,7 @@ use Rattle.gimple_ir.specs.declared.declarations.StructDef.{StructDef}
 use Rattle.gimple_ir.specs.declared.value.LayoutSlot.{LayoutSlot}
 use Rattle.gimple_ir.specs.declared.value.Layout.{Layout}
 use Rattle.gimple_core.specs.declared.layout.KnownLayout.{KnownLayout}
-use Rattle.gimple_core.specs.Names.{same_name}
+use Rattle.std.specs.Str.{bytes_eq}
 use Rattle.gimple_core.specs.Operators.{bits_of}
 
 abbrev pub empty_layout : Layout
@@ -26,7 +26,7 @@ known_layout (Some k) = k.layout
 
 abbrev pub shape_layout : List KnownLayout → Shape → Layout
 shape_layout known (Plain scalar) = record { size = bits_of scalar / 8; align = bits_of scalar / 8; slots = record { offset = 0; scalar = scalar } ∷ [] }
-shape_layout known (Named name) = known_layout (find (λ k. same_name k.name name) known)
+shape_layout known (Named name) = known_layout (find (λ k. bytes_eq k.name name) known)
 
 -- the slots of some elements in a row
 abbrev pub repeated : ℕ → ℕ → List LayoutSlot → List LayoutSlot
@@ -70,7 +70,7 @@ pub record IsLayout (l : Layout) : Type 0 where
 -- the struct behind these ones is not behind the first one of the shape's name
 abbrev pub IsNeeded : List StructDef → Shape → Type 0
 IsNeeded earlier (Plain scalar) = ⊥
-IsNeeded earlier (Named name) = list_any (λ s. same_name s.name name) earlier ≡ false
+IsNeeded earlier (Named name) = list_any (λ s. bytes_eq s.name name) earlier ≡ false
 
 -- the size is at most 2 ^ 24, and so is that of the shape's struct and of each struct before it
 pub record HasLayout (structs : List StructDef) (d : Decl) : Type 0 where

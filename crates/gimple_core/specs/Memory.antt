@@ -5,7 +5,7 @@ use Rattle.gimple_ir.specs.declared.scalar.Scalar.TheVariants.{I8, I16, I32, I64
 use Rattle.gimple_ir.specs.declared.value.Object.{Object}
 use Rattle.gimple_ir.specs.declared.value.Object.TheVariants.{Global, Local}
 use Rattle.gimple_ir.specs.declared.value.Value.{Value}
-use Rattle.gimple_ir.specs.declared.value.Value.TheVariants.{Int, Null, At}
+use Rattle.gimple_ir.specs.declared.value.Value.TheVariants.{Int, Null, At, Code}
 use Rattle.gimple_ir.specs.declared.value.TrapKind.{TrapKind}
 use Rattle.gimple_ir.specs.declared.value.TrapKind.TheVariants.{NullAccess, Dangling, Bounds, BadSlot}
 use Rattle.gimple_core.specs.declared.machine.MemorySlot.{MemorySlot}
@@ -44,6 +44,7 @@ unfoldable pub moved_by : Value → ℤ → Value
 moved_by (Int z) by = Int z
 moved_by Null by = Null
 moved_by (At object offset) by = At object (wrapped I64 (offset +ℤ by))
+moved_by (Code name) by = Code name
 
 -- the slot of an object with this offset and scalar
 abbrev pub is_slot : Object → ℕ → Scalar → MemorySlot → Bool
@@ -62,10 +63,11 @@ abbrev pub found_extent : List MemorySlot → Object → ℤ → Scalar → Opti
 found_extent slots object offset scalar None = Err Dangling
 found_extent slots object offset scalar (Some x) = found_offset slots object offset scalar x
 
--- an access of a scalar through a pointer; a number is no pointer
+-- an access of a scalar through a pointer; a number is no pointer, and a function has no slots
 unfoldable pub found_at : Memory → Value → Scalar → Result FoundSlot TrapKind
 found_at memory (Int z) scalar = Err NullAccess
 found_at memory Null scalar = Err NullAccess
+found_at memory (Code name) scalar = Err BadSlot
 found_at memory (At object offset) scalar =
     found_extent memory.slots object offset scalar (find (λ x. same_object x.object object) memory.living)
 

@@ -3,6 +3,8 @@ use Rattle.std.specs.Prelude.{ℕ, ◌-◌, ◌*◌, ◌%◌, ◌^◌, ◌==◌,
 use Rattle.std.specs.Int.{int_rem_euclid, int_shr}
 use Rattle.gimple_ir.specs.declared.scalar.Scalar.{Scalar}
 use Rattle.gimple_ir.specs.declared.scalar.Scalar.TheVariants.{I8, I16, I32, I64, U8, U16, U32, U64, Ptr}
+use Rattle.gimple_ir.specs.declared.scalar.Mode.{Mode}
+use Rattle.gimple_ir.specs.declared.scalar.Mode.TheVariants.{Trap, Wrap}
 use Rattle.gimple_ir.specs.declared.scalar.Op.{Op}
 use Rattle.gimple_ir.specs.declared.scalar.Op.TheVariants.{Add, Sub, Mul, Div, Rem, And, Or, Xor, Shl, Shr}
 use Rattle.gimple_ir.specs.declared.scalar.Cmp.{Cmp}
@@ -71,9 +73,14 @@ of_bits scalar n = if is_signed scalar && not (int_lt (pos n) (pos (half_of scal
 unfoldable pub wrapped : Scalar → ℤ → ℤ
 wrapped scalar z = of_bits scalar (low_bits scalar z)
 
--- a result of signed arithmetic traps outside its scalar, one of unsigned arithmetic wraps
-abbrev pub kept : Scalar → ℤ → Result ℤ TrapKind
-kept scalar z = if is_signed scalar then (if in_scalar scalar z then Ok z else Err Overflow) else Ok (wrapped scalar z)
+-- a result, or a trap where it lies outside its scalar
+abbrev pub within : Scalar → ℤ → Result ℤ TrapKind
+within scalar z = if in_scalar scalar z then Ok z else Err Overflow
+
+-- a result of a sum, difference or product: outside its scalar it traps where the scalar is signed and the mode traps, else it wraps
+abbrev pub kept : Mode → Scalar → ℤ → Result ℤ TrapKind
+kept Trap scalar z = if is_signed scalar then within scalar z else Ok (wrapped scalar z)
+kept Wrap scalar z = Ok (wrapped scalar z)
 
 -- a result, unless the test fails
 abbrev pub unless_not : Bool → TrapKind → Result ℤ TrapKind → Result ℤ TrapKind
@@ -82,18 +89,18 @@ unless_not test kind value = if test then value else Err kind
 abbrev pub is_count : Scalar → ℤ → Bool
 is_count scalar z = int_le (pos 0) z && int_lt z (pos (bits_of scalar))
 
--- an operator on two numbers
-unfoldable pub op_of : Op → Scalar → ℤ → ℤ → Result ℤ TrapKind
-op_of Add scalar l r = kept scalar (l +ℤ r)
-op_of Sub scalar l r = kept scalar (l -ℤ r)
-op_of Mul scalar l r = kept scalar (l *ℤ r)
-op_of Div scalar l r = unless_not (not (unsigned_abs r == 0)) Divide (kept scalar (int_div l r))
-op_of Rem scalar l r = unless_not (not (unsigned_abs r == 0)) Divide (unless_not (in_scalar scalar (int_div l r)) Overflow (Ok (int_rem l r)))
-op_of And scalar l r = Ok (of_bits scalar (bit_and (low_bits scalar l) (low_bits scalar r)))
-op_of Or scalar l r = Ok (of_bits scalar (bit_or (low_bits scalar l) (low_bits scalar r)))
-op_of Xor scalar l r = Ok (of_bits scalar (bit_xor (low_bits scalar l) (low_bits scalar r)))
-op_of Shl scalar l r = unless_not (is_count scalar r) Shift (Ok (of_bits scalar (low_bits scalar l * 2 ^ unsigned_abs r % modulus_of scalar)))
-op_of Shr scalar l r = unless_not (is_count scalar r) Shift (Ok (int_shr l (unsigned_abs r)))
+-- an operator on two numbers; the mode is that of sums, differences and products
+unfoldable pub op_of : Mode → Op → Scalar → ℤ → ℤ → Result ℤ TrapKind
+op_of mode Add scalar l r = kept mode scalar (l +ℤ r)
+op_of mode Sub scalar l r = kept mode scalar (l -ℤ r)
+op_of mode Mul scalar l r = kept mode scalar (l *ℤ r)
+op_of mode Div scalar l r = unless_not (not (unsigned_abs r == 0)) Divide (within scalar (int_div l r))
+op_of mode Rem scalar l r = unless_not (not (unsigned_abs r == 0)) Divide (unless_not (in_scalar scalar (int_div l r)) Overflow (Ok (int_rem l r)))
+op_of mode And scalar l r = Ok (of_bits scalar (bit_and (low_bits scalar l) (low_bits scalar r)))
+op_of mode Or scalar l r = Ok (of_bits scalar (bit_or (low_bits scalar l) (low_bits scalar r)))
+op_of mode Xor scalar l r = Ok (of_bits scalar (bit_xor (low_bits scalar l) (low_bits scalar r)))
+op_of mode Shl scalar l r = unless_not (is_count scalar r) Shift (Ok (of_bits scalar (low_bits scalar l * 2 ^ unsigned_abs r % modulus_of scalar)))
+op_of mode Shr scalar l r = unless_not (is_count scalar r) Shift (Ok (int_shr l (unsigned_abs r)))
 
 -- a comparison of two numbers
 abbrev pub cmp_of : Cmp → ℤ → ℤ → Bool

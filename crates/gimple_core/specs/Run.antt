@@ -4,7 +4,7 @@ use Rattle.std.specs.Fmt.{signed_decimal}
 use Rattle.gimple_ir.specs.declared.scalar.Scalar.{Scalar}
 use Rattle.gimple_ir.specs.declared.scalar.Scalar.TheVariants.{I32, I64, U64, Ptr}
 use Rattle.gimple_ir.specs.declared.value.Value.{Value}
-use Rattle.gimple_ir.specs.declared.value.Value.TheVariants.{Int, Null, At}
+use Rattle.gimple_ir.specs.declared.value.Value.TheVariants.{Int, Null, At, Code}
 use Rattle.gimple_ir.specs.declared.value.Object.{Object}
 use Rattle.gimple_ir.specs.declared.value.Object.TheVariants.{Global as GlobalObject, Local as LocalObject}
 use Rattle.gimple_ir.specs.declared.declarations.Decl.{Decl}
@@ -16,12 +16,14 @@ use Rattle.gimple_ir.specs.declared.operand.Base.TheVariants.{Reg as RegBase, Va
 use Rattle.gimple_ir.specs.declared.operand.Place.{Place}
 use Rattle.gimple_ir.specs.declared.declarations.Global.{Global}
 use Rattle.gimple_ir.specs.declared.declarations.Register.{Register}
+use Rattle.gimple_ir.specs.declared.scalar.Mode.{Mode}
 use Rattle.gimple_ir.specs.declared.scalar.Op.{Op}
 use Rattle.gimple_ir.specs.declared.scalar.Op.TheVariants.{Shl, Shr}
 use Rattle.gimple_ir.specs.declared.scalar.Cmp.{Cmp}
 use Rattle.gimple_ir.specs.declared.scalar.Cmp.TheVariants.{Eq, Ne}
 use Rattle.gimple_ir.specs.declared.statement.Stmt.{Stmt}
-use Rattle.gimple_ir.specs.declared.statement.Stmt.TheVariants.{Copy, Arith, Compare, Convert, Load, Store, Call, Get, Put, Abort}
+use Rattle.gimple_ir.specs.declared.statement.Signature.{Signature}
+use Rattle.gimple_ir.specs.declared.statement.Stmt.TheVariants.{Copy, Arith, Compare, Convert, Load, Store, Call, Indirect, Get, Put, Abort}
 use Rattle.gimple_ir.specs.declared.block.Case.{Case}
 use Rattle.gimple_ir.specs.declared.block.End.{End}
 use Rattle.gimple_ir.specs.declared.block.End.TheVariants.{Goto, If, Switch, Return}
@@ -29,19 +31,19 @@ use Rattle.gimple_ir.specs.declared.block.Block.{Block}
 use Rattle.gimple_ir.specs.declared.program.Function.{Function}
 use Rattle.gimple_ir.specs.declared.program.Program.{Program}
 use Rattle.gimple_ir.specs.declared.value.TrapKind.{TrapKind}
-use Rattle.gimple_ir.specs.declared.value.TrapKind.TheVariants.{ReadOnly, Abort as AbortTrap}
+use Rattle.gimple_ir.specs.declared.value.TrapKind.TheVariants.{NullAccess, ReadOnly, BadCall, Abort as AbortTrap}
 use Rattle.gimple_ir.specs.declared.value.Outcome.{Outcome}
 use Rattle.gimple_ir.specs.declared.value.Outcome.TheVariants.{Going, Ended, Trapped}
-use Rattle.gimple_core.specs.declared.machine.Cell.{Cell}
 use Rattle.gimple_core.specs.declared.machine.MemorySlot.{MemorySlot}
 use Rattle.gimple_core.specs.declared.machine.FoundSlot.{FoundSlot}
-use Rattle.gimple_core.specs.Names.{same_name}
+use Rattle.std.specs.Str.{bytes_eq}
 use Rattle.gimple_core.specs.Operators.{wrapped, op_of, cmp_of}
 use Rattle.gimple_ir.specs.declared.value.LayoutSlot.{LayoutSlot}
 use Rattle.gimple_ir.specs.declared.value.Layout.{Layout}
 use Rattle.gimple_core.specs.Layout.{layout_of}
-use Rattle.gimple_core.specs.Memory.{Memory, moved_by, found_at, put_slot, without_frame, same_object}
-use Rattle.gimple_core.specs.State.{Control, Frame, World, State, Scope, scope_of, zero_of, value_in, scalar_in, assigned, number_in, offset_in}
+use Rattle.gimple_core.specs.Memory.{Memory, moved_by, found_at, put_slot, without_frame, same_object, same_scalar}
+use Rattle.gimple_core.specs.Sealed.{Sealed}
+use Rattle.gimple_core.specs.State.{Control, Frame, World, State, Scope, scope_of, registers_of, Setting, setting_of, zero_of, register_place, value_in, scalar_in, put_at, assigned, number_in, offset_in}
 
 -- ---- values
 
@@ -49,35 +51,35 @@ abbrev pub local_address : ℕ → Option ℕ → Value → Value
 local_address serial None other = other
 local_address serial (Some k) other = At (LocalObject serial k) (pos 0)
 
-abbrev pub global_address : Option ℕ → Value
-global_address None = Null
-global_address (Some k) = At (GlobalObject k) (pos 0)
+-- the address of a global, or the function of a name that no global has
+abbrev pub global_address : List ℕ → Option ℕ → Value
+global_address name None = Code name
+global_address name (Some k) = At (GlobalObject k) (pos 0)
 
--- the address of a global
 unfoldable pub address_of_global : List Global → List ℕ → Value
-address_of_global globals name = global_address (position (λ g. same_name g.decl.name name) globals)
+address_of_global globals name = global_address name (position (λ g. bytes_eq g.decl.name name) globals)
 
--- the address of a variable that a frame sees
+-- the address of a variable that a frame sees, or the function of a name that no variable has
 unfoldable pub address_of : List Global → Scope → List ℕ → Value
 address_of globals scope name =
-    local_address scope.serial (position (λ d. same_name d.name name) scope.locals) (address_of_global globals name)
+    local_address scope.serial (position (λ d. bytes_eq d.name name) scope.locals) (address_of_global globals name)
 
-abbrev pub value_of : List Global → Scope → List Cell → Operand → Value
-value_of globals scope cells (Reg name) = value_in cells name
-value_of globals scope cells (Number z) = Int z
-value_of globals scope cells NullOperand = Null
-value_of globals scope cells (Address name offset) = moved_by (address_of globals scope name) (offset_in offset)
+abbrev pub value_of : List Global → Scope → List Value → Operand → Value
+value_of globals scope registers (Reg name) = value_in scope registers name
+value_of globals scope registers (Number z) = Int z
+value_of globals scope registers NullOperand = Null
+value_of globals scope registers (Address name offset) = moved_by (address_of globals scope name) (offset_in offset)
 
-abbrev pub base_value : List Global → Scope → List Cell → Base → Value
-base_value globals scope cells (RegBase name) = value_in cells name
-base_value globals scope cells (Variable name) = address_of globals scope name
+abbrev pub base_value : List Global → Scope → List Value → Base → Value
+base_value globals scope registers (RegBase name) = value_in scope registers name
+base_value globals scope registers (Variable name) = address_of globals scope name
 
 -- where a place points
-abbrev pub place_value : List Global → Scope → List Cell → Place → Value
-place_value globals scope cells place = moved_by (base_value globals scope cells place.base) (offset_in place.offset)
+abbrev pub place_value : List Global → Scope → List Value → Place → Value
+place_value globals scope registers place = moved_by (base_value globals scope registers place.base) (offset_in place.offset)
 
-abbrev pub values_of : List Global → Scope → List Cell → List Operand → List Value
-values_of globals scope cells operands = map (value_of globals scope cells) operands
+abbrev pub values_of : List Global → Scope → List Value → List Operand → List Value
+values_of globals scope registers operands = map (value_of globals scope registers) operands
 
 abbrev pub value_result : Result ℤ TrapKind → Result Value TrapKind
 value_result (Ok z) = Ok (Int z)
@@ -88,6 +90,7 @@ abbrev pub any_number : Value → ℤ
 any_number (Int z) = if int_le (pos 0) z then number_in U64 (Int z) else number_in I64 (Int z)
 any_number Null = pos 0
 any_number (At object offset) = pos 0
+any_number (Code name) = pos 0
 
 -- the right side of an operator: for a shift it may be of any integer scalar
 abbrev pub right_number : Op → Scalar → Value → ℤ
@@ -96,9 +99,9 @@ right_number Shr scalar v = any_number v
 right_number op scalar v = number_in scalar v
 
 -- an operator with a result of this scalar
-unfoldable pub arith_of : Scalar → Value → Op → Value → Result Value TrapKind
-arith_of Ptr l op r = Ok (moved_by l (any_number r))
-arith_of scalar l op r = value_result (op_of op scalar (number_in scalar l) (right_number op scalar r))
+unfoldable pub arith_of : Mode → Scalar → Value → Op → Value → Result Value TrapKind
+arith_of mode Ptr l op r = Ok (moved_by l (any_number r))
+arith_of mode scalar l op r = value_result (op_of mode op scalar (number_in scalar l) (right_number op scalar r))
 
 abbrev pub one_if : Bool → Value
 one_if true = Int (pos 1)
@@ -107,6 +110,7 @@ one_if false = Int (pos 0)
 abbrev pub same_pointer : Value → Value → Bool
 same_pointer Null Null = true
 same_pointer (At a i) (At b j) = same_object a b && cmp_of Eq i j
+same_pointer (Code f) (Code g) = bytes_eq f g
 same_pointer v w = false
 
 abbrev pub pointers_compare : Cmp → Bool → Bool
@@ -154,10 +158,14 @@ with_locals structs serial k [] m = m
 with_locals structs serial k (d ∷ ds) m =
     with_locals structs serial (k + 1) ds (with_object m (LocalObject serial k) (layout_of structs d) false [])
 
--- the registers of a call that begins: the k-th value, or zero or null
-unfoldable pub cells_made : List Register → List Value → ℕ → List Cell
-cells_made [] vs k = []
-cells_made (r ∷ rs) vs k = record { name = r.name; scalar = r.scalar; value = unwrap_or (slice_get vs k) (zero_of r.scalar) } ∷ cells_made rs vs (k + 1)
+-- what registers hold where a call begins: the k-th value, or zero or null
+unfoldable pub values_made : List Register → List Value → ℕ → List Value
+values_made [] vs k = []
+values_made (r ∷ rs) vs k = unwrap_or (slice_get vs k) (zero_of r.scalar) ∷ values_made rs vs (k + 1)
+
+-- the registers of a call: the formals hold the arguments, the others zero or null
+abbrev pub registers_made : Function → List Value → List Value
+registers_made f arguments = values_made f.params arguments 0 ++ values_made f.registers [] 0
 
 -- ---- one statement
 
@@ -177,44 +185,45 @@ pub data Did : Type 0 where
   Goes : State → Did
   Reaches : Reached → Did
 
-abbrev pub assign : World → List ℕ → Value → World
-assign d to v = record d { cells = assigned d.cells to v }
+abbrev pub assign : Scope → World → List ℕ → Value → World
+assign scope d to v = record d { registers = assigned scope d.registers to v }
 
-abbrev pub assign_result : World → List ℕ → Result Value TrapKind → Result World TrapKind
-assign_result d to (Ok v) = Ok (assign d to v)
-assign_result d to (Err kind) = Err kind
+abbrev pub assign_result : Scope → World → List ℕ → Result Value TrapKind → Result World TrapKind
+assign_result scope d to (Ok v) = Ok (assign scope d to v)
+assign_result scope d to (Err kind) = Err kind
 
-abbrev pub loaded : World → List ℕ → Result FoundSlot TrapKind → Result World TrapKind
-loaded d to (Err kind) = Err kind
-loaded d to (Ok f) = Ok (assign d to f.value)
+abbrev pub loaded : Scope → World → List ℕ → Result FoundSlot TrapKind → Result World TrapKind
+loaded scope d to (Err kind) = Err kind
+loaded scope d to (Ok f) = Ok (assign scope d to f.value)
 
 abbrev pub stored : World → Scalar → Value → Result FoundSlot TrapKind → Result World TrapKind
 stored d scalar v (Err kind) = Err kind
 stored d scalar v (Ok f) =
     if f.constant then Err ReadOnly else Ok (record d { memory = record d.memory { slots = put_slot d.memory.slots f.object f.offset scalar v } })
 
-abbrev pub got : World → List ℕ → Option ℤ → World
-got d to None = assign d to (Int (pos 0))
-got d to (Some z) = record (assign d to (Int z)) { taken = d.taken + 1 }
+abbrev pub got : Scope → World → List ℕ → Option ℤ → World
+got scope d to None = assign scope d to (Int (pos 0))
+got scope d to (Some z) = record (assign scope d to (Int z)) { taken = d.taken + 1 }
 
 abbrev pub put : World → Value → World
 put d v = record d { output = d.output ++ (signed_decimal (any_number v) ++ 10 ∷ []) }
 
--- a statement that is no call needs nothing of the program but the names of its globals
-unfoldable pub act : List Global → Scope → Stmt → World → Result World TrapKind
-act globals scope (Copy to from) d = Ok (assign d to (value_of globals scope d.cells from))
-act globals scope (Arith to left op right) d =
-    assign_result d to (arith_of (scalar_in d.cells to) (value_of globals scope d.cells left) op (value_of globals scope d.cells right))
-act globals scope (Compare to left cmp right) d =
-    Ok (assign d to (one_if (compares (value_of globals scope d.cells left) cmp (value_of globals scope d.cells right))))
-act globals scope (Convert to scalar from) d = Ok (assign d to (converted scalar (value_of globals scope d.cells from)))
-act globals scope (Load to scalar place) d = loaded d to (found_at d.memory (place_value globals scope d.cells place) scalar)
-act globals scope (Store scalar place from) d =
-    stored d scalar (value_of globals scope d.cells from) (found_at d.memory (place_value globals scope d.cells place) scalar)
-act globals scope (Call to callee arguments) d = Err AbortTrap
-act globals scope (Get to) d = Ok (got d to (slice_get d.input d.taken))
-act globals scope (Put from) d = Ok (put d (value_of globals scope d.cells from))
-act globals scope Abort d = Err AbortTrap
+-- a statement that is no call
+unfoldable pub act : Setting → Scope → Stmt → World → Result World TrapKind
+act e scope (Copy to from) d = Ok (assign scope d to (value_of e.globals scope d.registers from))
+act e scope (Arith to left op right) d =
+    assign_result scope d to (arith_of e.mode (scalar_in scope to) (value_of e.globals scope d.registers left) op (value_of e.globals scope d.registers right))
+act e scope (Compare to left cmp right) d =
+    Ok (assign scope d to (one_if (compares (value_of e.globals scope d.registers left) cmp (value_of e.globals scope d.registers right))))
+act e scope (Convert to scalar from) d = Ok (assign scope d to (converted scalar (value_of e.globals scope d.registers from)))
+act e scope (Load to scalar place) d = loaded scope d to (found_at d.memory (place_value e.globals scope d.registers place) scalar)
+act e scope (Store scalar place from) d =
+    stored d scalar (value_of e.globals scope d.registers from) (found_at d.memory (place_value e.globals scope d.registers place) scalar)
+act e scope (Call to callee arguments) d = Err AbortTrap
+act e scope (Indirect to signature callee arguments) d = Err AbortTrap
+act e scope (Get to) d = Ok (got scope d to (slice_get d.input d.taken))
+act e scope (Put from) d = Ok (put d (value_of e.globals scope d.registers from))
+act e scope Abort d = Err AbortTrap
 
 abbrev pub acted : State → Result World TrapKind → Did
 acted s (Ok d) = Goes (record s { world = d })
@@ -224,69 +233,116 @@ acted s (Err kind) = Reaches (Traps s.world.output kind)
 abbrev pub lost : State → Reached
 lost s = Traps s.world.output AbortTrap
 
+-- what a call names: a function, or a register that holds one, with the signature that is written
+pub data Callee : Type 0 where
+  Named : List ℕ → Callee
+  Through : List ℕ → Signature → Callee
+
+-- what a call says
+pub record Calling : Type 0 where
+  pub to : Option (List ℕ)
+  pub callee : Callee
+  pub arguments : List Operand
+
+abbrev pub call_of : Stmt → Option Calling
+call_of (Call to callee arguments) = Some (record { to = to; callee = Named callee; arguments = arguments })
+call_of (Indirect to signature callee arguments) = Some (record { to = to; callee = Through callee signature; arguments = arguments })
+call_of x = None
+
+unfoldable pub function_named : List ℕ → List Function → Option Function
+function_named name fs = find (λ f. bytes_eq f.name name) fs
+
+abbrev pub same_scalars : List Scalar → List Scalar → Bool
+same_scalars [] [] = true
+same_scalars [] (b ∷ bs) = false
+same_scalars (a ∷ rest) [] = false
+same_scalars (a ∷ rest) (b ∷ bs) = same_scalar a b && same_scalars rest bs
+
+abbrev pub same_result : Option Scalar → Option Scalar → Bool
+same_result None None = true
+same_result None (Some b) = false
+same_result (Some a) None = false
+same_result (Some a) (Some b) = same_scalar a b
+
+-- the function's formal scalars and result are the written ones
+abbrev pub has_signature : Signature → Function → Bool
+has_signature signature f = same_scalars (map (λ r. r.scalar) f.params) signature.params && same_result f.result signature.result
+
+-- a program with a type fault can name a function that is not there: it then traps with `Abort`
+abbrev pub called_by_name : Option Function → Result Function TrapKind
+called_by_name None = Err AbortTrap
+called_by_name (Some f) = Ok f
+
+abbrev pub called_with : Signature → Option Function → Result Function TrapKind
+called_with signature None = Err BadCall
+called_with signature (Some f) = if has_signature signature f then Ok f else Err BadCall
+
+-- the function that a value is, if it has this signature
+abbrev pub called_through : List Function → Signature → Value → Result Function TrapKind
+called_through fs signature (Int z) = Err BadCall
+called_through fs signature Null = Err NullAccess
+called_through fs signature (At object offset) = Err BadCall
+called_through fs signature (Code name) = called_with signature (function_named name fs)
+
+-- the function that is called, or why the call traps
+abbrev pub called_function : List Function → Scope → List Value → Callee → Result Function TrapKind
+called_function fs scope registers (Named name) = called_by_name (function_named name fs)
+called_function fs scope registers (Through name signature) = called_through fs signature (value_in scope registers name)
+
+-- the register that takes a call's result, by its position
+abbrev pub taking : Scope → Option (List ℕ) → Option ℕ
+taking scope None = None
+taking scope (Some name) = register_place scope.declared name
+
 -- the frame of a call that begins
-abbrev pub control_made : Function → Block → ℕ → Option (List ℕ) → Control
+abbrev pub control_made : Function → Block → ℕ → Option ℕ → Control
 control_made f b serial takes = record { function = f; block = 0; index = 0; rest = b.body; end = b.end; serial = serial; takes = takes }
 
-abbrev pub entered : List StructDef → State → Option (List ℕ) → List Value → Function → List Block → Reached
+abbrev pub entered : List StructDef → State → Option ℕ → List Value → Function → List Block → Reached
 entered structs s takes arguments f [] = lost s
 entered structs s takes arguments f (b ∷ bs) = Moves CallEntry (record {
   top = control_made f b s.next takes;
-  below = record { control = s.top; cells = s.world.cells } ∷ s.below;
+  below = record { control = s.top; registers = s.world.registers } ∷ s.below;
   world = record s.world {
-    cells = cells_made f.params arguments 0 ++ cells_made f.registers [] 0;
+    registers = registers_made f arguments;
     memory = with_locals structs s.next 0 f.locals s.world.memory;
   };
   next = s.next + 1;
 })
 
-abbrev pub enter : List StructDef → State → Option (List ℕ) → List Value → Option Function → Reached
-enter structs s takes arguments None = lost s
-enter structs s takes arguments (Some f) = entered structs s takes arguments f f.blocks
+abbrev pub enter : List StructDef → State → Option ℕ → List Value → Result Function TrapKind → Reached
+enter structs s takes arguments (Err kind) = Traps s.world.output kind
+enter structs s takes arguments (Ok f) = entered structs s takes arguments f f.blocks
 
-unfoldable pub function_named : List ℕ → List Function → Option Function
-function_named name fs = find (λ f. same_name f.name name) fs
-
--- what a call says
-pub record Calling : Type 0 where
-  pub to : Option (List ℕ)
-  pub callee : List ℕ
-  pub arguments : List Operand
-
-abbrev pub call_of : Stmt → Option Calling
-call_of (Call to callee arguments) = Some (record { to = to; callee = callee; arguments = arguments })
-call_of x = None
-
-abbrev pub call : Program → Calling → State → Reached
+abbrev pub call : Sealed → Calling → State → Reached
 call p c s =
-    enter p.structs s c.to (values_of p.globals (scope_of s.top) s.world.cells c.arguments) (function_named c.callee p.functions)
+    enter p.program.structs s (taking (scope_of s.top) c.to) (values_of p.program.globals (scope_of s.top) s.world.registers c.arguments)
+    (called_function p.program.functions (scope_of s.top) s.world.registers c.callee)
 
 -- the statement is this call, or it is none
-abbrev pub performed : Program → Option Calling → Stmt → State → Did
-performed p None x s = acted s (act p.globals (scope_of s.top) x s.world)
+abbrev pub performed : Sealed → Option Calling → Stmt → State → Did
+performed p None x s = acted s (act (setting_of p) (scope_of s.top) x s.world)
 performed p (Some c) x s = Reaches (call p c s)
 
-abbrev pub perform : Program → Stmt → State → Did
+abbrev pub perform : Sealed → Stmt → State → Did
 perform p x s = performed p (call_of x) x s
 
 -- ---- an end
 
-abbrev pub jumped : State → ℕ → Option Block → Reached
-jumped s k None = lost s
-jumped s k (Some b) = Moves Jump (record s { top = record s.top { block = k; index = 0; rest = b.body; end = b.end } })
+-- the first block with this label, and its number, from this number on
+unfoldable pub block_from : ℕ → ℕ → List Block → Option (ℕ × Block)
+block_from label k [] = None
+block_from label k (b ∷ bs) = if b.label == label then Some (k, b) else block_from label (k + 1) bs
 
-abbrev pub place_or : Option ℕ → ℕ
-place_or None = 0
-place_or (Some k) = k
+abbrev pub labelled : ℕ → List Block → Option (ℕ × Block)
+labelled label bs = block_from label 0 bs
 
-abbrev pub block_place : ℕ → List Block → Option ℕ
-block_place label bs = position (λ b. b.label == label) bs
-
-abbrev pub block_at : ℕ → List Block → Option Block
-block_at label bs = find (λ b. b.label == label) bs
+abbrev pub jumped : State → Option (ℕ × Block) → Reached
+jumped s None = lost s
+jumped s (Some (k, b)) = Moves Jump (record s { top = record s.top { block = k; index = 0; rest = b.body; end = b.end } })
 
 abbrev pub jump : State → ℕ → Reached
-jump s label = jumped s (place_or (block_place label s.top.function.blocks)) (block_at label s.top.function.blocks)
+jump s label = jumped s (labelled label s.top.function.blocks)
 
 abbrev pub case_target : Option Case → ℕ → ℕ
 case_target None other = other
@@ -297,8 +353,9 @@ abbrev pub case_for : ℤ → List Case → ℕ → ℕ
 case_for z cases other = case_target (find (λ c. cmp_of Eq z c.value) cases) other
 
 -- goes on in the caller's frame with these registers
-abbrev pub returned_to : State → Control → List Cell → List Frame → Reached
-returned_to s c cells fs = Moves CallReturn (record s { top = c; below = fs; world = record s.world { cells = cells; memory = without_frame s.top.serial s.world.memory } })
+abbrev pub returned_to : State → Control → List Value → List Frame → Reached
+returned_to s c registers fs =
+    Moves CallReturn (record s { top = c; below = fs; world = record s.world { registers = registers; memory = without_frame s.top.serial s.world.memory } })
 
 -- the status that main's last return gives
 abbrev pub status_of : Option Value → ℤ
@@ -306,34 +363,33 @@ status_of None = pos 0
 status_of (Some v) = number_in I32 v
 
 -- a result put into the register that takes it
-abbrev pub given : List Cell → Option (List ℕ) → Option Value → List Cell
-given cells None value = cells
-given cells (Some name) None = cells
-given cells (Some name) (Some v) = assigned cells name v
+abbrev pub given : List Value → Option ℕ → Option Value → List Value
+given registers takes None = registers
+given registers takes (Some v) = put_at registers takes v
 
 abbrev pub returned : State → Option Value → List Frame → Reached
 returned s value [] = Stops s.world.output (status_of value)
-returned s value (f ∷ fs) = returned_to s f.control (given f.cells s.top.takes value) fs
+returned s value (f ∷ fs) = returned_to s f.control (given f.registers s.top.takes value) fs
 
-abbrev pub return_value : List Global → State → Option Operand → Option Value
-return_value globals s None = None
-return_value globals s (Some operand) = Some (value_of globals (scope_of s.top) s.world.cells operand)
+-- where an end leads: to a label, or to a return of this value
+pub data Exit : Type 0 where
+  ToLabel : ℕ → Exit
+  Returns : Option Value → Exit
 
--- the label that an end leads to, or none at a return
-abbrev pub target_of : List Global → End → State → Option ℕ
-target_of globals (Goto label) s = Some label
-target_of globals (If left cmp right this that) s =
-    Some (if compares (value_of globals (scope_of s.top) s.world.cells left) cmp (value_of globals (scope_of s.top) s.world.cells right) then this else that)
-target_of globals (Switch on cases other) s = Some (case_for (any_number (value_of globals (scope_of s.top) s.world.cells on)) cases other)
-target_of globals (Return operand) s = None
+abbrev pub exit_of : List Global → End → State → Exit
+exit_of globals (Goto label) s = ToLabel label
+exit_of globals (If left cmp right this that) s =
+    ToLabel (if compares (value_of globals (scope_of s.top) s.world.registers left) cmp (value_of globals (scope_of s.top) s.world.registers right) then this else that)
+exit_of globals (Switch on cases other) s = ToLabel (case_for (any_number (value_of globals (scope_of s.top) s.world.registers on)) cases other)
+exit_of globals (Return None) s = Returns None
+exit_of globals (Return (Some operand)) s = Returns (Some (value_of globals (scope_of s.top) s.world.registers operand))
+
+abbrev pub leave : State → Exit → Reached
+leave s (ToLabel label) = jump s label
+leave s (Returns value) = returned s value s.below
 
 abbrev pub finish : List Global → End → State → Reached
-finish globals (Return operand) s = returned s (return_value globals s operand) s.below
-finish globals e s = jump_to s (target_of globals e s)
-  where
-    jump_to : State → Option ℕ → Reached
-    jump_to s None = lost s
-    jump_to s (Some label) = jump s label
+finish globals e s = leave s (exit_of globals e s)
 
 -- ---- runs
 
@@ -341,12 +397,12 @@ finish globals e s = jump_to s (target_of globals e s)
 abbrev pub resumed : State → List Stmt → State
 resumed s rest = record s { top = record s.top { rest = rest; index = s.top.index + 1 } }
 
-abbrev pub stepped : Program → State → List Stmt → Did
-stepped p s [] = Reaches (finish p.globals s.top.end s)
+abbrev pub stepped : Sealed → State → List Stmt → Did
+stepped p s [] = Reaches (finish p.program.globals s.top.end s)
 stepped p s (x ∷ xs) = perform p x (resumed s xs)
 
 -- one statement or end
-abbrev pub step : Program → State → Did
+abbrev pub step : Sealed → State → Did
 step p s = stepped p s s.top.rest
 
 -- goes on where a statement does
@@ -355,8 +411,8 @@ then_walk (Goes t) on = on t
 then_walk (Reaches r) on = r
 
 -- the statements up to the next transfer
-unfoldable pub walk : Program → List Stmt → State → Reached
-walk p [] s = finish p.globals s.top.end s
+unfoldable pub walk : Sealed → List Stmt → State → Reached
+walk p [] s = finish p.program.globals s.top.end s
 walk p (x ∷ xs) s = then_walk (perform p x (resumed s xs)) (walk p xs)
 
 -- the run would make one transfer too many
@@ -372,7 +428,7 @@ then_run (Stops output status) on = Ended output status
 then_run (Traps output kind) on = Trapped output kind
 
 -- a run that may make n more transfers
-unfoldable pub runs : Program → ℕ → State → Outcome
+unfoldable pub runs : Sealed → ℕ → State → Outcome
 runs p zero s = paused (walk p s.top.rest s)
 runs p (suc n) s = then_run (walk p s.top.rest s) (runs p n)
 
@@ -383,14 +439,18 @@ main_name = 109 ∷ 97 ∷ 105 ∷ 110 ∷ []
 abbrev pub no_memory : Memory
 no_memory = record { living = []; slots = [] }
 
+-- the memory in which main's first frame begins, but for its own locals
+abbrev pub first_memory : Program → Memory
+first_memory p = with_globals p.structs p.globals 0 p.globals no_memory
+
 abbrev pub begun : Program → List ℤ → Function → List Block → Option State
 begun p input f [] = None
 begun p input f (b ∷ bs) = Some (record {
   top = control_made f b 0 None;
   below = [];
   world = record {
-    cells = cells_made f.params [] 0 ++ cells_made f.registers [] 0;
-    memory = with_locals p.structs 0 0 f.locals (with_globals p.structs p.globals 0 p.globals no_memory);
+    registers = registers_made f [];
+    memory = with_locals p.structs 0 0 f.locals (first_memory p);
     input = input;
     taken = 0;
     output = [];
@@ -403,13 +463,13 @@ begun_by p input None = None
 begun_by p input (Some f) = begun p input f f.blocks
 
 -- the state in which main's first frame begins
-abbrev pub start : Program → List ℤ → Option State
-start p input = begun_by p input (function_named main_name p.functions)
+abbrev pub start : Sealed → List ℤ → Option State
+start p input = begun_by p.program input (function_named main_name p.program.functions)
 
-abbrev pub runs_from : Program → ℕ → Option State → Outcome
+abbrev pub runs_from : Sealed → ℕ → Option State → Outcome
 runs_from p n None = Trapped [] AbortTrap
 runs_from p n (Some s) = runs p n s
 
 -- what a program has come to after at most n transfers
-unfoldable pub Run : Program → List ℤ → ℕ → Outcome
+unfoldable pub Run : Sealed → List ℤ → ℕ → Outcome
 Run p input n = runs_from p n (start p input)

@@ -1,11 +1,8 @@
--- Programs without a type fault.
-use Rattle.std.specs.Prelude.{◌≡◌, None}
+-- What a run is of.
+use Rattle.gimple_ir.specs.declared.scalar.Mode.{Mode}
 use Rattle.gimple_ir.specs.declared.program.Program.{Program}
-use Rattle.gimple_core.specs.Accepted.{first_fault}
 
-abbrev pub IsAccepted : Program → Type 0
-IsAccepted p = first_fault p ≡ None
-
--- what a checked program holds
+-- a program, and the mode of its arithmetic: what a checked program holds
 pub record Sealed : Type 0 where
   pub program : Program
+  pub mode : Mode

@@ -1,21 +1,24 @@
 -- The state of a run.
-use Rattle.std.specs.Prelude.{find, ℕ, ℤ, pos, if◌then◌else◌, List, Option, Some, None}
+use Rattle.std.specs.Prelude.{find, position, unwrap_or, slice_get, slice_set, ◌++◌, ℕ, ℤ, pos, if◌then◌else◌, List, Option, Some, None}
 use Rattle.gimple_ir.specs.declared.scalar.Scalar.{Scalar}
 use Rattle.gimple_ir.specs.declared.scalar.Scalar.TheVariants.{I64, Ptr}
 use Rattle.gimple_ir.specs.declared.value.Value.{Value}
-use Rattle.gimple_ir.specs.declared.value.Value.TheVariants.{Int, Null, At}
+use Rattle.gimple_ir.specs.declared.value.Value.TheVariants.{Int, Null, At, Code}
+use Rattle.gimple_ir.specs.declared.scalar.Mode.{Mode}
 use Rattle.gimple_ir.specs.declared.declarations.Decl.{Decl}
+use Rattle.gimple_ir.specs.declared.declarations.Global.{Global}
+use Rattle.gimple_ir.specs.declared.declarations.Register.{Register}
 use Rattle.gimple_ir.specs.declared.statement.Stmt.{Stmt}
 use Rattle.gimple_ir.specs.declared.block.End.{End}
 use Rattle.gimple_ir.specs.declared.program.Function.{Function}
-use Rattle.gimple_core.specs.declared.machine.Cell.{Cell}
-use Rattle.gimple_core.specs.Names.{same_name, update_first}
+use Rattle.gimple_core.specs.Sealed.{Sealed}
+use Rattle.std.specs.Str.{bytes_eq}
 use Rattle.gimple_core.specs.Operators.{in_scalar}
 use Rattle.gimple_core.specs.Memory.{Memory}
 
 -- Where a call that has not returned stands. `rest` is what is left of the body of its block, and `end` is the block's
 -- end; `block` and `index` say the same by numbers, for the events of a trace. `takes` is the caller's register for the
--- result.
+-- result, by its position there.
 pub record Control : Type 0 where
   pub function : Function
   pub block : ℕ
@@ -23,16 +26,16 @@ pub record Control : Type 0 where
   pub rest : List Stmt
   pub end : End
   pub serial : ℕ
-  pub takes : Option (List ℕ)
+  pub takes : Option ℕ
 
--- a call that waits for another one
+-- a call that waits for another one; the registers are values by position: the formals, then the other registers
 pub record Frame : Type 0 where
   pub control : Control
-  pub cells : List Cell
+  pub registers : List Value
 
 -- what a statement that is no call can change: the running frame's registers, the memory, the place in the input, the output
 pub record World : Type 0 where
-  pub cells : List Cell
+  pub registers : List Value
   pub memory : Memory
   pub input : List ℤ
   pub taken : ℕ
@@ -44,46 +47,67 @@ pub record State : Type 0 where
   pub world : World
   pub next : ℕ
 
--- what a frame's addresses of locals depend on
+-- what the names of a frame mean: its registers with their scalars, and its locals, which are objects of its serial
 pub record Scope : Type 0 where
+  pub declared : List Register
   pub locals : List Decl
   pub serial : ℕ
 
+-- the registers of a function by position: its formals, then the others
+abbrev pub registers_of : Function → List Register
+registers_of f = f.params ++ f.registers
+
 abbrev pub scope_of : Control → Scope
-scope_of c = record { locals = c.function.locals; serial = c.serial }
+scope_of c = record { declared = registers_of c.function; locals = c.function.locals; serial = c.serial }
+
+-- what statements need of a program: its globals, and the mode of its arithmetic
+pub record Setting : Type 0 where
+  pub globals : List Global
+  pub mode : Mode
+
+abbrev pub setting_of : Sealed → Setting
+setting_of p = record { globals = p.program.globals; mode = p.mode }
 
 -- zero or null
 abbrev pub zero_of : Scalar → Value
 zero_of Ptr = Null
 zero_of scalar = Int (pos 0)
 
-abbrev pub cell_value : Option Cell → Value
-cell_value None = Null
-cell_value (Some c) = c.value
+-- the position of a register
+unfoldable pub register_place : List Register → List ℕ → Option ℕ
+register_place declared name = position (λ r. bytes_eq r.name name) declared
 
-abbrev pub cell_scalar : Option Cell → Scalar
-cell_scalar None = Ptr
-cell_scalar (Some c) = c.scalar
+abbrev pub value_at : List Value → Option ℕ → Value
+value_at values None = Null
+value_at values (Some k) = unwrap_or (slice_get values k) Null
 
-abbrev pub cell_of : List ℕ → List Cell → Option Cell
-cell_of name cells = find (λ c. same_name c.name name) cells
+-- what a register holds
+unfoldable pub value_in : Scope → List Value → List ℕ → Value
+value_in scope values name = value_at values (register_place scope.declared name)
 
--- what a register holds, and its scalar
-unfoldable pub value_in : List Cell → List ℕ → Value
-value_in cells name = cell_value (cell_of name cells)
+abbrev pub scalar_or_pointer : Option Register → Scalar
+scalar_or_pointer None = Ptr
+scalar_or_pointer (Some r) = r.scalar
 
-unfoldable pub scalar_in : List Cell → List ℕ → Scalar
-scalar_in cells name = cell_scalar (cell_of name cells)
+-- the scalar of a register
+unfoldable pub scalar_in : Scope → List ℕ → Scalar
+scalar_in scope name = scalar_or_pointer (find (λ r. bytes_eq r.name name) scope.declared)
+
+-- the registers with a value put at a position
+abbrev pub put_at : List Value → Option ℕ → Value → List Value
+put_at values None v = values
+put_at values (Some k) v = slice_set values k v
 
 -- the registers after an assignment
-abbrev pub assigned : List Cell → List ℕ → Value → List Cell
-assigned cells name v = update_first (λ c. same_name c.name name) (λ c. record c { value = v }) cells
+abbrev pub assigned : Scope → List Value → List ℕ → Value → List Value
+assigned scope values name v = put_at values (register_place scope.declared name) v
 
 -- a value as a number of a scalar: what is none counts as 0, which no program without a type fault meets
 unfoldable pub number_in : Scalar → Value → ℤ
 number_in scalar (Int z) = if in_scalar scalar z then z else pos 0
 number_in scalar Null = pos 0
 number_in scalar (At object offset) = pos 0
+number_in scalar (Code name) = pos 0
 
 -- an offset, which lies in i64 in every program without a type fault
 abbrev pub offset_in : ℤ → ℤ

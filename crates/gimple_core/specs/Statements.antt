@@ -1,5 +1,5 @@
 -- The checks of statements and of the ends of blocks, in their order.
-use Rattle.std.specs.Prelude.{ℕ, ◌+◌, ◌==◌, Bool, true, false, not, ◌||◌, ◌&&◌, if◌then◌else◌, List, [], ◌∷◌, ◌++◌, length, Option, Some, None, Err, ℤ, pos, negsuc}
+use Rattle.std.specs.Prelude.{ℕ, ◌+◌, ◌==◌, Bool, true, false, not, ◌||◌, ◌&&◌, if◌then◌else◌, List, [], ◌∷◌, ◌++◌, length, map, Option, Some, None, Err, ℤ, pos, negsuc}
 use Rattle.std.specs.List.{list_any}
 use Rattle.std.specs.Ordering.{int_eq}
 use Rattle.gimple_ir.specs.declared.scalar.Scalar.{Scalar}
@@ -14,7 +14,8 @@ use Rattle.gimple_ir.specs.declared.operand.Base.{Base}
 use Rattle.gimple_ir.specs.declared.operand.Base.TheVariants.{Reg as RegBase, Variable}
 use Rattle.gimple_ir.specs.declared.operand.Place.{Place}
 use Rattle.gimple_ir.specs.declared.statement.Stmt.{Stmt}
-use Rattle.gimple_ir.specs.declared.statement.Stmt.TheVariants.{Copy, Arith, Compare, Convert, Load, Store, Call, Get, Put, Abort}
+use Rattle.gimple_ir.specs.declared.statement.Stmt.TheVariants.{Copy, Arith, Compare, Convert, Load, Store, Call, Indirect, Get, Put, Abort}
+use Rattle.gimple_ir.specs.declared.statement.Signature.{Signature}
 use Rattle.gimple_ir.specs.declared.block.Case.{Case}
 use Rattle.gimple_ir.specs.declared.block.End.{End}
 use Rattle.gimple_ir.specs.declared.block.End.TheVariants.{Goto, If, Switch, Return}
@@ -27,7 +28,7 @@ use Rattle.gimple_core.specs.Memory.{same_scalar}
 use Rattle.gimple_core.specs.Operators.{in_scalar}
 use Rattle.gimple_core.specs.Layout.{layout_of}
 use Rattle.gimple_core.specs.Verdict.{Verdict, Judgement, ◌>>=◌, ◌>>◌, pure, demand, found, at}
-use Rattle.gimple_core.specs.Env.{Env, Names, named, scalar_of, is_variable, variable, is_constant}
+use Rattle.gimple_core.specs.Env.{Env, Names, named, scalar_of, is_target, is_variable, variable, is_constant}
 
 abbrev pub is_pointer : Scalar → Bool
 is_pointer Ptr = true
@@ -46,8 +47,9 @@ operand env wrong scalar (Number z) = do
 operand env wrong scalar Null = demand (is_pointer scalar) wrong
 operand env wrong scalar (Address name offset) = do
   demand (is_pointer scalar) wrong
-  demand (is_variable env name) 1
+  demand (is_variable env name || is_target env.targets name) 1
   demand (in_scalar I64 offset) 13
+  demand (is_variable env name || int_eq offset (pos 0)) 11
 
 -- ---- arithmetic
 
@@ -152,13 +154,16 @@ is_read_only env (RegBase name) = false
 
 -- ---- calls
 
--- each argument against its formal
-unfoldable pub arguments : Env → List Register → List Operand → Verdict (Unit {0})
-arguments env (formal ∷ formals) (x ∷ xs) = do
-  operand env 6 formal.scalar x
-  arguments env formals xs
+abbrev pub scalars_of : List Register → List Scalar
+scalars_of rs = map (λ r. r.scalar) rs
+
+-- each argument against the scalar of its formal
+unfoldable pub arguments : Env → List Scalar → List Operand → Verdict (Unit {0})
+arguments env (scalar ∷ scalars) (x ∷ xs) = do
+  operand env 6 scalar x
+  arguments env scalars xs
 arguments env [] xs = pure tt
-arguments env (formal ∷ formals) [] = pure tt
+arguments env (scalar ∷ scalars) [] = pure tt
 
 -- the scalar of a call's target
 abbrev pub target : Env → Option (List ℕ) → Verdict (Option Scalar)
@@ -177,8 +182,19 @@ called env functions to callee xs = do
   scalar ← target env to
   function ← found (named callee functions) 1
   demand (length xs == length function.params) 5
-  arguments env function.params xs
+  arguments env (scalars_of function.params) xs
   result_fits scalar function.result
+
+-- a call through a register, which holds a function with the written signature where the call runs
+unfoldable pub called_through : Env → Option (List ℕ) → Signature → List ℕ → List Operand → Verdict (Unit {0})
+called_through env to signature callee xs = do
+  scalar ← target env to
+  functions ← found env.targets 1
+  own ← scalar_of env callee
+  demand (is_pointer own) 4
+  demand (length xs == length signature.params) 5
+  arguments env signature.params xs
+  result_fits scalar signature.result
 
 -- ---- statements
 
@@ -216,6 +232,7 @@ statement env functions (Store scalar to from) = do
   demand (not (is_read_only env to.base)) 14
   operand env 4 scalar from
 statement env functions (Call to callee xs) = called env functions to callee xs
+statement env functions (Indirect to signature callee xs) = called_through env to signature callee xs
 statement env functions (Get to) = do
   own ← scalar_of env to
   demand (same_scalar own I64) 4

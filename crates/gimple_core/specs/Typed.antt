@@ -1,5 +1,6 @@
 -- What the names, statements and ends of a program without a type fault are.
-use Rattle.std.specs.Prelude.{◌≡◌, ℕ, ◌==◌, ◌++◌, true, false, ◌&&◌, List, [], ◌∷◌, map, Option, Some, None, ℤ}
+use Rattle.std.specs.Ordering.{int_eq}
+use Rattle.std.specs.Prelude.{◌≡◌, ℕ, ◌==◌, ◌++◌, true, false, ◌&&◌, ◌||◌, pos, List, [], ◌∷◌, map, Option, Some, None, ℤ}
 use Rattle.std.specs.List.{list_any}
 use Rattle.gimple_ir.specs.declared.scalar.Scalar.{Scalar}
 use Rattle.gimple_ir.specs.declared.scalar.Scalar.TheVariants.{I32, I64, Ptr}
@@ -10,7 +11,7 @@ use Rattle.gimple_ir.specs.declared.operand.Operand.TheVariants.{Reg, Number, Nu
 use Rattle.gimple_ir.specs.declared.operand.Base.{Base}
 use Rattle.gimple_ir.specs.declared.operand.Base.TheVariants.{Reg as RegBase, Variable}
 use Rattle.gimple_ir.specs.declared.statement.Stmt.{Stmt}
-use Rattle.gimple_ir.specs.declared.statement.Stmt.TheVariants.{Copy, Arith, Compare, Convert, Load, Store, Call, Get, Put, Abort}
+use Rattle.gimple_ir.specs.declared.statement.Stmt.TheVariants.{Copy, Arith, Compare, Convert, Load, Store, Call, Indirect, Get, Put, Abort}
 use Rattle.gimple_ir.specs.declared.block.Case.{Case}
 use Rattle.gimple_ir.specs.declared.block.End.{End}
 use Rattle.gimple_ir.specs.declared.block.End.TheVariants.{Goto, If, Switch, Return}
@@ -22,9 +23,9 @@ use Rattle.gimple_ir.specs.declared.program.Program.{Program}
 use Rattle.gimple_core.specs.Operators.{in_scalar}
 use Rattle.gimple_core.specs.Layout.{layout_of}
 use Rattle.gimple_core.specs.Run.{function_named, main_name}
-use Rattle.gimple_core.specs.Env.{Env, Names, named, is_variable, variable, globals_by_name, functions_by_name, decls_by_name, registers_by_name}
+use Rattle.gimple_core.specs.Env.{Env, Names, named, targets_of, is_target, is_variable, variable, globals_by_name, functions_by_name, decls_by_name, registers_by_name}
 use Rattle.gimple_core.specs.Accepted.{first_fault}
-use Rattle.gimple_core.specs.Statements.{is_pointer, is_shift, is_add, is_order, is_printable, is_read_only, has_slot}
+use Rattle.gimple_core.specs.Statements.{is_pointer, is_shift, is_add, is_order, is_printable, is_read_only, has_slot, scalars_of}
 
 -- the name is a register of this scalar
 abbrev pub IsRegister : Env → Scalar → List ℕ → Type 0
@@ -35,7 +36,8 @@ abbrev pub HasScalar : Env → Scalar → Operand → Type 0
 HasScalar env scalar (Reg name) = IsRegister env scalar name
 HasScalar env scalar (Number z) = (is_pointer scalar ≡ false) × (in_scalar scalar z ≡ true)
 HasScalar env scalar Null = is_pointer scalar ≡ true
-HasScalar env scalar (Address name offset) = (is_pointer scalar ≡ true) × (is_variable env name ≡ true) × (in_scalar I64 offset ≡ true)
+HasScalar env scalar (Address name offset) =
+    (is_pointer scalar ≡ true) × ((is_variable env name || is_target env.targets name) ≡ true) × (in_scalar I64 offset ≡ true) × ((is_variable env name || int_eq offset (pos 0)) ≡ true)
 
 -- a register of an integer scalar
 abbrev pub IsIntegerRegister : Env → Scalar → Operand → Type 0
@@ -62,10 +64,10 @@ PlaceTyped env scalar (RegBase name) offset = IsRegister env Ptr name × (in_sca
 PlaceTyped env scalar (Variable name) offset = (d : Decl) × (variable env name ≡ Some d) × (in_scalar I64 offset ≡ true) × (has_slot (layout_of env.structs d).slots offset scalar ≡ true)
 
 -- each argument has the scalar of its formal
-abbrev pub Fit : Env → List Register → List Operand → Type 0
+abbrev pub Fit : Env → List Scalar → List Operand → Type 0
 Fit env [] [] = Unit {0}
-Fit env (formal ∷ formals) (x ∷ xs) = HasScalar env formal.scalar x × Fit env formals xs
-Fit env formals xs = ⊥
+Fit env (scalar ∷ scalars) (x ∷ xs) = HasScalar env scalar x × Fit env scalars xs
+Fit env scalars xs = ⊥
 
 -- the target of a call takes what the callee gives
 abbrev pub TakesResult : Env → Option (List ℕ) → Option Scalar → Type 0
@@ -84,7 +86,8 @@ StatementTyped env functions (Compare to left cmp right) = (scalar : Scalar) × 
 StatementTyped env functions (Convert to scalar from) = IsRegister env scalar to × (is_pointer scalar ≡ false) × ((own : Scalar) × IsIntegerRegister env own from)
 StatementTyped env functions (Load to scalar place) = IsRegister env scalar to × PlaceTyped env scalar place.base place.offset
 StatementTyped env functions (Store scalar place from) = PlaceTyped env scalar place.base place.offset × (is_read_only env place.base ≡ false) × HasScalar env scalar from
-StatementTyped env functions (Call to callee xs) = (f : Function) × (named callee functions ≡ Some f) × Fit env f.params xs × TakesResult env to f.result
+StatementTyped env functions (Call to callee xs) = (f : Function) × (named callee functions ≡ Some f) × Fit env (scalars_of f.params) xs × TakesResult env to f.result
+StatementTyped env functions (Indirect to signature callee xs) = IsRegister env Ptr callee × Fit env signature.params xs × TakesResult env to signature.result
 StatementTyped env functions (Get to) = IsRegister env I64 to
 StatementTyped env functions (Put from) = Printable env from
 StatementTyped env functions Abort = Unit {0}
@@ -119,6 +122,7 @@ BlocksTyped env functions (b ∷ bs) = BodyTyped env functions b.body × EndType
 -- what a function of a program sees
 abbrev pub env_of : Program → Function → Env
 env_of p f = record {
+  targets = targets_of p;
   structs = p.structs;
   globals = globals_by_name p.globals;
   locals = decls_by_name f.locals;

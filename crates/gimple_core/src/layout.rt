@@ -4,7 +4,7 @@ ghost use Rattle.std.specs.Prelude.{ℕ, ◌≡◌, ◌≤◌, ◌<◌, ◌*◌,
 ghost use Rattle.std.specs.List.{All, list_any};
 ghost use Rattle.std.specs.Option.{option_copied};
 ghost use Rattle.gimple_ir.specs.declared.declarations.StructDef.{StructDef};
-ghost use Rattle.gimple_core.specs.Names.{same_name};
+ghost use Rattle.std.specs.Str.{bytes_eq};
 ghost use Rattle.gimple_core.specs.Layout.{round_up, moved, array_layout, decl_layout, with_field, with_fields, empty_layout, struct_layouts, layout_of, IsLayout, IsNeeded, HasLayout};
 
 use crate::names::same_name;
@@ -71,7 +71,7 @@ fn repeat(
 
 /// The layout of the first struct of this name.
 pub fn named_layout<'a>(known: &'a [KnownLayout], name: &Text) -> Option<&'a KnownLayout>
-    ensures { option_copied result ≡ find (λ k. same_name k.name name.now) known.now }
+    ensures { option_copied result ≡ find (λ k. bytes_eq k.name name.now) known.now }
 {
     known.iter().find(|k| same_name(&k.name, name))
 }
@@ -159,8 +159,8 @@ fn known_layouts(
     structs: &[StructDef],
     name: &Text,
 ) -> Result<Vec<KnownLayout>, OutOfMemory>
-    requires size { (k : ℕ) (s : StructDef) → slice_get structs.now k ≡ Some s → list_any (λ s. same_name s.name name.now) (take k structs.now) ≡ false → (with_fields (struct_layouts [] (take k structs.now)) empty_layout s.fields).size ≤ 2 ^ 24 }
-    ensures found { IfOk result (λ known. find (λ k. same_name k.name name.now) known.items ≡ find (λ k. same_name k.name name.now) (struct_layouts [] structs.now)) }
+    requires size { (k : ℕ) (s : StructDef) → slice_get structs.now k ≡ Some s → list_any (λ s. bytes_eq s.name name.now) (take k structs.now) ≡ false → (with_fields (struct_layouts [] (take k structs.now)) empty_layout s.fields).size ≤ 2 ^ 24 }
+    ensures found { IfOk result (λ known. find (λ k. bytes_eq k.name name.now) known.items ≡ find (λ k. bytes_eq k.name name.now) (struct_layouts [] structs.now)) }
     ensures layouts { IfOk result (λ known. All (λ k. IsLayout k.layout) known.items) }
 {
     let mut known = Vec::new(alloc);

@@ -1,22 +1,14 @@
-//! What a run keeps of registers and memory.
+//! What a run keeps of memory.
 
-use gimple_ir::{Object, Scalar, Text, Value};
-
-/// A register: its name, the scalar that it was declared with, and what it holds.
-#[derive(Debug, Drop)]
-pub struct Cell {
-    pub name: Text,
-    pub scalar: Scalar,
-    pub value: Value,
-}
+use gimple_ir::{Object, Scalar, Value};
 
 /// A slot of an object in memory, and what it holds.
-#[derive(Clone, Copy, Debug)]
-pub struct MemorySlot {
+#[derive(Debug, Drop)]
+pub struct MemorySlot<'a> {
     pub object: Object,
     pub offset: u64,
     pub scalar: Scalar,
-    pub value: Value,
+    pub value: Value<'a>,
 }
 
 /// A living object: its size in bytes, and whether no store may go there.
@@ -28,10 +20,10 @@ pub struct Extent {
 }
 
 /// Where an access goes, what is there, and whether no store may go there.
-#[derive(Clone, Copy, Debug)]
-pub struct FoundSlot {
+#[derive(Debug, Drop)]
+pub struct FoundSlot<'a> {
     pub object: Object,
     pub offset: u64,
-    pub value: Value,
+    pub value: Value<'a>,
     pub constant: bool,
 }

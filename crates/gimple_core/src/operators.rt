@@ -1,9 +1,10 @@
 //! The operators on numbers of a scalar.
 
 ghost use Rattle.std.specs.Prelude.{◌≡◌, ◌≤◌, ◌<◌, ◌*◌, ◌%◌, ◌^◌, ◌*ℤ◌, ℕ, ℤ, pos, IsTrue, ◌↔◌};
-ghost use Rattle.gimple_core.specs.Operators.{bits_of, is_signed, modulus_of, half_of, least_of, greatest_of, in_scalar, low_bits, of_bits, wrapped, is_count, kept, op_of, cmp_of, IsWord, IsSignedWord, IsRightSide};
+ghost use Rattle.gimple_ir.specs.declared.scalar.Mode.{Mode};
+ghost use Rattle.gimple_core.specs.Operators.{bits_of, is_signed, modulus_of, half_of, least_of, greatest_of, in_scalar, low_bits, of_bits, wrapped, is_count, within, kept, op_of, cmp_of, IsWord, IsSignedWord, IsRightSide};
 
-use gimple_ir::{Cmp, Op, Scalar, TrapKind};
+use gimple_ir::{Cmp, Mode, Op, Scalar, TrapKind};
 
 /// How many bits a scalar has.
 pub fn bits(scalar: Scalar) -> u32
@@ -97,13 +98,10 @@ pub fn wrap(scalar: Scalar, value: i128) -> i128
     from_low(scalar, low(scalar, value))
 }
 
-/// A result of arithmetic.
-fn keep(scalar: Scalar, value: i128) -> Result<i128, TrapKind>
-    ensures { result ≡ kept scalar value }
+/// The value, or a trap where it lies outside the scalar.
+fn keep_within(scalar: Scalar, value: i128) -> Result<i128, TrapKind>
+    ensures { result ≡ within scalar value }
 {
-    if !signed(scalar) {
-        return Ok(wrap(scalar, value));
-    }
     if fits(scalar, value) {
         Ok(value)
     } else {
@@ -111,41 +109,57 @@ fn keep(scalar: Scalar, value: i128) -> Result<i128, TrapKind>
     }
 }
 
-#[tactic(auto, unfolding(crate::specs::Operators::op_of))]
-fn add(scalar: Scalar, left: i128, right: i128) -> Result<i128, TrapKind>
-    requires left { IsWord left }
-    requires right { IsWord right }
-    ensures { result ≡ op_of Op.Add scalar left right }
+/// A result of a sum, difference or product.
+fn keep(mode: Mode, scalar: Scalar, value: i128) -> Result<i128, TrapKind>
+    ensures { result ≡ kept mode scalar value }
 {
-    keep(scalar, left + right)
+    match mode {
+        Mode::Wrap => Ok(wrap(scalar, value)),
+        Mode::Trap => {
+            if signed(scalar) {
+                keep_within(scalar, value)
+            } else {
+                Ok(wrap(scalar, value))
+            }
+        }
+    }
 }
 
 #[tactic(auto, unfolding(crate::specs::Operators::op_of))]
-fn subtract(scalar: Scalar, left: i128, right: i128) -> Result<i128, TrapKind>
+fn add(mode: Mode, scalar: Scalar, left: i128, right: i128) -> Result<i128, TrapKind>
     requires left { IsWord left }
     requires right { IsWord right }
-    ensures { result ≡ op_of Op.Sub scalar left right }
+    ensures { result ≡ op_of mode Op.Add scalar left right }
 {
-    keep(scalar, left - right)
+    keep(mode, scalar, left + right)
+}
+
+#[tactic(auto, unfolding(crate::specs::Operators::op_of))]
+fn subtract(mode: Mode, scalar: Scalar, left: i128, right: i128) -> Result<i128, TrapKind>
+    requires left { IsWord left }
+    requires right { IsWord right }
+    ensures { result ≡ op_of mode Op.Sub scalar left right }
+{
+    keep(mode, scalar, left - right)
 }
 
 #[tactic(auto, unfolding(crate::specs::Operators::op_of))]
 fn divide(scalar: Scalar, left: i128, right: i128) -> Result<i128, TrapKind>
     requires left { IsWord left }
     requires right { IsWord right }
-    ensures { result ≡ op_of Op.Div scalar left right }
+    ensures { (mode : Mode) → result ≡ op_of mode Op.Div scalar left right }
 {
     if right == 0 {
         return Err(TrapKind::Divide);
     }
-    keep(scalar, left / right)
+    keep_within(scalar, left / right)
 }
 
 #[tactic(auto, unfolding(crate::specs::Operators::op_of))]
 fn remainder(scalar: Scalar, left: i128, right: i128) -> Result<i128, TrapKind>
     requires left { IsWord left }
     requires right { IsWord right }
-    ensures { result ≡ op_of Op.Rem scalar left right }
+    ensures { (mode : Mode) → result ≡ op_of mode Op.Rem scalar left right }
 {
     if right == 0 {
         return Err(TrapKind::Divide);
@@ -159,21 +173,21 @@ fn remainder(scalar: Scalar, left: i128, right: i128) -> Result<i128, TrapKind>
 
 #[tactic(auto, unfolding(crate::specs::Operators::op_of))]
 fn both(scalar: Scalar, left: i128, right: i128) -> Result<i128, TrapKind>
-    ensures { result ≡ op_of Op.And scalar left right }
+    ensures { (mode : Mode) → result ≡ op_of mode Op.And scalar left right }
 {
     Ok(from_low(scalar, low(scalar, left) & low(scalar, right)))
 }
 
 #[tactic(auto, unfolding(crate::specs::Operators::op_of))]
 fn either(scalar: Scalar, left: i128, right: i128) -> Result<i128, TrapKind>
-    ensures { result ≡ op_of Op.Or scalar left right }
+    ensures { (mode : Mode) → result ≡ op_of mode Op.Or scalar left right }
 {
     Ok(from_low(scalar, low(scalar, left) | low(scalar, right)))
 }
 
 #[tactic(auto, unfolding(crate::specs::Operators::op_of))]
 fn differs(scalar: Scalar, left: i128, right: i128) -> Result<i128, TrapKind>
-    ensures { result ≡ op_of Op.Xor scalar left right }
+    ensures { (mode : Mode) → result ≡ op_of mode Op.Xor scalar left right }
 {
     Ok(from_low(scalar, low(scalar, left) ^ low(scalar, right)))
 }
@@ -192,13 +206,13 @@ fn multiply_signed(left: i128, right: i128) -> i128
     left * right
 }
 
-fn multiply(scalar: Scalar, left: i128, right: i128) -> Result<i128, TrapKind>
+fn multiply(mode: Mode, scalar: Scalar, left: i128, right: i128) -> Result<i128, TrapKind>
     requires left { IsTrue (in_scalar scalar left) }
     requires right { IsTrue (in_scalar scalar right) }
-    ensures { result ≡ op_of Op.Mul scalar left right }
+    ensures { result ≡ op_of mode Op.Mul scalar left right }
 {
     if signed(scalar) {
-        keep(scalar, multiply_signed(left, right))
+        keep(mode, scalar, multiply_signed(left, right))
     } else {
         Ok(multiply_unsigned(scalar, left as u64, right as u64))
     }
@@ -213,7 +227,7 @@ fn shift_low(scalar: Scalar, low: u64, count: u32) -> i128
 
 #[tactic(auto, unfolding(crate::specs::Operators::op_of))]
 fn shift_left(scalar: Scalar, left: i128, right: i128) -> Result<i128, TrapKind>
-    ensures { result ≡ op_of Op.Shl scalar left right }
+    ensures { (mode : Mode) → result ≡ op_of mode Op.Shl scalar left right }
 {
     if 0 <= right && right < i128::from(bits(scalar)) {
         Ok(shift_low(scalar, low(scalar, left), right as u32))
@@ -224,7 +238,7 @@ fn shift_left(scalar: Scalar, left: i128, right: i128) -> Result<i128, TrapKind>
 
 #[tactic(auto, unfolding(crate::specs::Operators::op_of))]
 fn shift_right(scalar: Scalar, left: i128, right: i128) -> Result<i128, TrapKind>
-    ensures { result ≡ op_of Op.Shr scalar left right }
+    ensures { (mode : Mode) → result ≡ op_of mode Op.Shr scalar left right }
 {
     if 0 <= right && right < i128::from(bits(scalar)) {
         Ok(left >> (right as u32))
@@ -233,16 +247,23 @@ fn shift_right(scalar: Scalar, left: i128, right: i128) -> Result<i128, TrapKind
     }
 }
 
-/// An operator on two numbers of a scalar; a shift's count may be of any integer scalar.
-pub fn eval_op(op: Op, scalar: Scalar, left: i128, right: i128) -> Result<i128, TrapKind>
+/// An operator on two numbers of a scalar; a shift's count may be of any integer scalar. The mode says whether signed
+/// sums, differences and products trap outside the scalar or wrap; all else is the same in both.
+pub fn eval_op(
+    mode: Mode,
+    op: Op,
+    scalar: Scalar,
+    left: i128,
+    right: i128,
+) -> Result<i128, TrapKind>
     requires left { IsTrue (in_scalar scalar left) }
     requires right { IsRightSide op scalar right }
-    ensures { result ≡ op_of op scalar left right }
+    ensures { result ≡ op_of mode op scalar left right }
 {
     match op {
-        Op::Add => add(scalar, left, right),
-        Op::Sub => subtract(scalar, left, right),
-        Op::Mul => multiply(scalar, left, right),
+        Op::Add => add(mode, scalar, left, right),
+        Op::Sub => subtract(mode, scalar, left, right),
+        Op::Mul => multiply(mode, scalar, left, right),
         Op::Div => divide(scalar, left, right),
         Op::Rem => remainder(scalar, left, right),
         Op::And => both(scalar, left, right),

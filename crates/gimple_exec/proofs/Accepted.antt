@@ -6,7 +6,7 @@ use Rattle.gimple_ir.specs.declared.declarations.Decl.{Decl}
 use Rattle.gimple_ir.specs.declared.declarations.StructDef.{StructDef}
 use Rattle.gimple_ir.specs.declared.program.Program.{Program}
 use Rattle.gimple_core.specs.Layout.{layout_of, HasLayout}
-use Rattle.gimple_core.specs.Sealed.{IsAccepted}
+use Rattle.gimple_core.specs.Accepted.{IsAccepted}
 use Rattle.gimple_core.proofs.AcceptedLayouts as layouts
 use Rattle.struct_tables.proofs.AcceptedStructs.{accepted_structs}
 use Rattle.gimple_exec.specs.Machines.{IsLimited, no_function}

@@ -8,7 +8,7 @@ use Rattle.gimple_ir.specs.declared.value.Value.{Value}
 use Rattle.gimple_ir.specs.declared.value.Value.TheVariants.{Null}
 use Rattle.gimple_ir.specs.declared.scalar.Scalar.TheVariants.{Ptr}
 use Rattle.gimple_core.specs.declared.machine.Cell.{Cell}
-use Rattle.gimple_core.specs.Names.{same_name}
+use Rattle.std.specs.Str.{bytes_eq}
 use Rattle.gimple_core.specs.State.{value_in, scalar_in, assigned, zero_of}
 use Rattle.gimple_core.specs.Run.{cells_made}
 use Rattle.gimple_exec.specs.Frames.{cells_of, values_made}
@@ -20,10 +20,10 @@ use Rattle.gimple_exec.proofs.PlaceLemmas.{find_at}
 
 -- the test of a register by its name, and that of its cell
 abbrev named : List ℕ → Register → Bool
-named name r = same_name r.name name
+named name r = bytes_eq r.name name
 
 abbrev is_cell : List ℕ → Cell → Bool
-is_cell name c = same_name c.name name
+is_cell name c = bytes_eq c.name name
 
 -- ---- one cell after another
 

@@ -8,7 +8,7 @@ use Rattle.gimple_ir.specs.declared.value.Value.{Value}
 use Rattle.gimple_ir.specs.declared.value.Outcome.TheVariants.{Going}
 use Rattle.gimple_ir.specs.declared.value.TrapKind.TheVariants.{Abort as AbortTrap}
 use Rattle.gimple_core.specs.declared.machine.Cell.{Cell}
-use Rattle.gimple_core.specs.Names.{same_name}
+use Rattle.std.specs.Str.{bytes_eq}
 use Rattle.gimple_core.specs.Memory.{Memory, without_frame}
 use Rattle.gimple_core.specs.State as meant
 use Rattle.gimple_core.specs.State.{State, scope_of}
@@ -38,11 +38,11 @@ leave_arrives p m rest v w cells memory e a b sound =
 
 -- ---- a call
 
-pub call_none : (p : Program) (m : Machine) (c : Calling) → find (λ f. same_name f.name c.callee) p.functions ≡ None → call p c (state_of p m) ≡ Traps m.world.output AbortTrap
+pub call_none : (p : Program) (m : Machine) (c : Calling) → find (λ f. bytes_eq f.name c.callee) p.functions ≡ None → call p c (state_of p m) ≡ Traps m.world.output AbortTrap
 unfolding function_named
 call_none p m c e = rw e refl
 
-pub call_empty : (p : Program) (m : Machine) (c : Calling) (k : ℕ) → IsFirstAt (λ f. same_name f.name c.callee) p.functions k → (function_of p k).blocks ≡ [] → call p c (state_of p m) ≡ Traps m.world.output AbortTrap
+pub call_empty : (p : Program) (m : Machine) (c : Calling) (k : ℕ) → IsFirstAt (λ f. bytes_eq f.name c.callee) p.functions k → (function_of p k).blocks ≡ [] → call p c (state_of p m) ≡ Traps m.world.output AbortTrap
 unfolding function_named
 call_empty p m c k at e = rw (at.found no_function, e) refl
 
@@ -58,7 +58,7 @@ made p m c k = cells_made (function_of p k).params (values_of p.globals (scope_o
 abbrev pub held : Program → Machine → ℕ → Memory
 held p m k = with_locals p.structs m.next 0 (function_of p k).locals m.world.memory
 
-call_begins : (p : Program) (m : Machine) (c : Calling) (k : ℕ) (cells : List Cell) (b : Block) (bs : List Block) → IsFirstAt (λ f. same_name f.name c.callee) p.functions k → (function_of p k).blocks ≡ b ∷ bs → cells ≡ made p m c k → call p c (state_of p m) ≡ Moves CallEntry (state_by p (record { function = k; block = 0; index = 0; serial = m.next; takes = c.to }) (m.below.items ++ record { stand = m.top; cells = m.world.cells } ∷ []) (record (world_of m.world) { cells = cells; memory = held p m k }) (m.next + 1))
+call_begins : (p : Program) (m : Machine) (c : Calling) (k : ℕ) (cells : List Cell) (b : Block) (bs : List Block) → IsFirstAt (λ f. bytes_eq f.name c.callee) p.functions k → (function_of p k).blocks ≡ b ∷ bs → cells ≡ made p m c k → call p c (state_of p m) ≡ Moves CallEntry (state_by p (record { function = k; block = 0; index = 0; serial = m.next; takes = c.to }) (m.below.items ++ record { stand = m.top; cells = m.world.cells } ∷ []) (record (world_of m.world) { cells = cells; memory = held p m k }) (m.next + 1))
 unfolding function_named
 call_begins p m c k cells b bs at e made =
     rw (at.found no_function, e, reverse-append m.below.items (record { stand = m.top; cells = m.world.cells } ∷ []), made) refl
@@ -72,24 +72,24 @@ begun_placed p m k takes cells memory new b bs within e begins sound =
       below = subst (λ ws. ArePlaced p ws) (sym back) (sound.top, sound.below);
     }
 
-begun_arrives : (p : Program) (m : Machine) (c : Calling) (k : ℕ) (cells : List Cell) (new : Machine) (b : Block) (bs : List Block) → IsFirstAt (λ f. same_name f.name c.callee) p.functions k → (function_of p k).blocks ≡ b ∷ bs → cells ≡ made p m c k → Begins m k c.to cells (held p m k) new → IsSound p m → Arrives p m.next HasMoved (call p c (state_of p m)) new
+begun_arrives : (p : Program) (m : Machine) (c : Calling) (k : ℕ) (cells : List Cell) (new : Machine) (b : Block) (bs : List Block) → IsFirstAt (λ f. bytes_eq f.name c.callee) p.functions k → (function_of p k).blocks ≡ b ∷ bs → cells ≡ made p m c k → Begins m k c.to cells (held p m k) new → IsSound p m → Arrives p m.next HasMoved (call p c (state_of p m)) new
 begun_arrives p m c k cells new b bs at e made begins sound =
     let same : state_by p (record { function = k; block = 0; index = 0; serial = m.next; takes = c.to }) (m.below.items ++ record { stand = m.top; cells = m.world.cells } ∷ []) (record (world_of m.world) { cells = cells; memory = held p m k }) (m.next + 1) ≡ state_of p new =
     λ i. state_by p (sym begins.top i) (sym begins.below i) (sym begins.world i) (sym begins.next i) in
     let next : new.next ≡ m.next + 1 = begins.next in
     (CallEntry, call_begins p m c k cells b bs at e made ∙ ap (Moves CallEntry) same, begun_placed p m k c.to cells (held p m k) new b bs at.within e begins sound, omega (arith, next))
 
-enters_by : (p : Program) (m : Machine) (c : Calling) (k : ℕ) (cells : List Cell) (new : Machine) (bs : List Block) → (function_of p k).blocks ≡ bs → (bs ≡ [] → ⊥) → IsFirstAt (λ f. same_name f.name c.callee) p.functions k → cells ≡ made p m c k → Begins m k c.to cells (held p m k) new → IsSound p m → Arrives p m.next HasMoved (call p c (state_of p m)) new
+enters_by : (p : Program) (m : Machine) (c : Calling) (k : ℕ) (cells : List Cell) (new : Machine) (bs : List Block) → (function_of p k).blocks ≡ bs → (bs ≡ [] → ⊥) → IsFirstAt (λ f. bytes_eq f.name c.callee) p.functions k → cells ≡ made p m c k → Begins m k c.to cells (held p m k) new → IsSound p m → Arrives p m.next HasMoved (call p c (state_of p m)) new
 enters_by p m c k cells new [] e some at made begins sound = absurd (some refl)
 enters_by p m c k cells new (b ∷ bs) e some at made begins sound = begun_arrives p m c k cells new b bs at e made begins sound
 
-pub enters : (p : Program) (m : Machine) (c : Calling) (k : ℕ) (cells : List Cell) (new : Machine) → ((function_of p k).blocks ≡ [] → ⊥) → IsFirstAt (λ f. same_name f.name c.callee) p.functions k → cells ≡ made p m c k → Begins m k c.to cells (held p m k) new → IsSound p m → Arrives p m.next HasMoved (call p c (state_of p m)) new
+pub enters : (p : Program) (m : Machine) (c : Calling) (k : ℕ) (cells : List Cell) (new : Machine) → ((function_of p k).blocks ≡ [] → ⊥) → IsFirstAt (λ f. bytes_eq f.name c.callee) p.functions k → cells ≡ made p m c k → Begins m k c.to cells (held p m k) new → IsSound p m → Arrives p m.next HasMoved (call p c (state_of p m)) new
 enters p m c k cells new some = enters_by p m c k cells new (function_of p k).blocks refl some
 
-spent_by : (p : Program) (m : Machine) (c : Calling) (k : ℕ) (bs : List Block) → (function_of p k).blocks ≡ bs → (bs ≡ [] → ⊥) → IsFirstAt (λ f. same_name f.name c.callee) p.functions k → paused (call p c (state_of p m)) ≡ Going m.world.output
+spent_by : (p : Program) (m : Machine) (c : Calling) (k : ℕ) (bs : List Block) → (function_of p k).blocks ≡ bs → (bs ≡ [] → ⊥) → IsFirstAt (λ f. bytes_eq f.name c.callee) p.functions k → paused (call p c (state_of p m)) ≡ Going m.world.output
 spent_by p m c k [] e some at = absurd (some refl)
 spent_by p m c k (b ∷ bs) e some at = ap paused (call_begins p m c k (made p m c k) b bs at e refl)
 
 -- a call that no serial is left for
-pub spent : (p : Program) (m : Machine) (c : Calling) (k : ℕ) → ((function_of p k).blocks ≡ [] → ⊥) → IsFirstAt (λ f. same_name f.name c.callee) p.functions k → 2 ^ 64 ≤ m.next → Arrives p m.next HasSpent (call p c (state_of p m)) m
+pub spent : (p : Program) (m : Machine) (c : Calling) (k : ℕ) → ((function_of p k).blocks ≡ [] → ⊥) → IsFirstAt (λ f. bytes_eq f.name c.callee) p.functions k → 2 ^ 64 ≤ m.next → Arrives p m.next HasSpent (call p c (state_of p m)) m
 spent p m c k some at l = (l, spent_by p m c k (function_of p k).blocks refl some at)

@@ -6,7 +6,7 @@ use Rattle.gimple_ir.specs.declared.block.Block.{Block}
 use Rattle.gimple_ir.specs.declared.value.Outcome.TheVariants.{Going, Ended, Trapped}
 use Rattle.gimple_ir.specs.declared.value.TrapKind.{TrapKind}
 use Rattle.gimple_ir.specs.declared.value.TrapKind.TheVariants.{Abort as AbortTrap}
-use Rattle.gimple_core.specs.Names.{same_name}
+use Rattle.std.specs.Str.{bytes_eq}
 use Rattle.gimple_core.specs.State as meant
 use Rattle.gimple_core.specs.State.{State}
 use Rattle.gimple_core.specs.Run.{Run, runs_from, Reached, Transfer, Moves, Stops, Traps, function_named, main_name, start, walk, runs, then_run, paused, no_memory, with_locals, with_globals, cells_made}
@@ -20,11 +20,11 @@ use Rattle.gimple_exec.specs.Places.{IsFirstAt}
 
 -- ---- the start
 
-pub start_none : (p : Program) (input : List ℤ) → find (λ f. same_name f.name main_name) p.functions ≡ None → start p input ≡ None
+pub start_none : (p : Program) (input : List ℤ) → find (λ f. bytes_eq f.name main_name) p.functions ≡ None → start p input ≡ None
 unfolding function_named
 start_none p input e = rw e refl
 
-pub start_empty : (p : Program) (input : List ℤ) (k : ℕ) → IsFirstAt (λ f. same_name f.name main_name) p.functions k → (function_of p k).blocks ≡ [] → start p input ≡ None
+pub start_empty : (p : Program) (input : List ℤ) (k : ℕ) → IsFirstAt (λ f. bytes_eq f.name main_name) p.functions k → (function_of p k).blocks ≡ [] → start p input ≡ None
 unfolding function_named
 start_empty p input k at e = rw (at.found no_function, e) refl
 
@@ -41,11 +41,11 @@ first_world p k input = record {
   output = [];
 }
 
-start_some : (p : Program) (input : List ℤ) (k : ℕ) (b : Block) (bs : List Block) → IsFirstAt (λ f. same_name f.name main_name) p.functions k → (function_of p k).blocks ≡ b ∷ bs → start p input ≡ Some (state_by p (record { function = k; block = 0; index = 0; serial = 0; takes = None }) [] (first_world p k input) 1)
+start_some : (p : Program) (input : List ℤ) (k : ℕ) (b : Block) (bs : List Block) → IsFirstAt (λ f. bytes_eq f.name main_name) p.functions k → (function_of p k).blocks ≡ b ∷ bs → start p input ≡ Some (state_by p (record { function = k; block = 0; index = 0; serial = 0; takes = None }) [] (first_world p k input) 1)
 unfolding function_named
 start_some p input k b bs at e = rw (at.found no_function, e) refl
 
-first_by : (p : Program) (input : List ℤ) (k : ℕ) (m : Machine) (bs : List Block) → (function_of p k).blocks ≡ bs → (bs ≡ [] → ⊥) → IsFirstAt (λ f. same_name f.name main_name) p.functions k → IsFirst p k input m → Starts p input (Some m)
+first_by : (p : Program) (input : List ℤ) (k : ℕ) (m : Machine) (bs : List Block) → (function_of p k).blocks ≡ bs → (bs ≡ [] → ⊥) → IsFirstAt (λ f. bytes_eq f.name main_name) p.functions k → IsFirst p k input m → Starts p input (Some m)
 first_by p input k m [] e some at first = absurd (some refl)
 first_by p input k m (b ∷ bs) e some at first =
     let same : state_by p (record { function = k; block = 0; index = 0; serial = 0; takes = None }) [] (first_world p k input) 1 ≡ state_of p m =
@@ -59,7 +59,7 @@ first_by p input k m (b ∷ bs) e some at first =
       first.next,
     )
 
-pub first_starts : (p : Program) (input : List ℤ) (k : ℕ) (m : Machine) → ((function_of p k).blocks ≡ [] → ⊥) → IsFirstAt (λ f. same_name f.name main_name) p.functions k → IsFirst p k input m → Starts p input (Some m)
+pub first_starts : (p : Program) (input : List ℤ) (k : ℕ) (m : Machine) → ((function_of p k).blocks ≡ [] → ⊥) → IsFirstAt (λ f. bytes_eq f.name main_name) p.functions k → IsFirst p k input m → Starts p input (Some m)
 first_starts p input k m some = first_by p input k m (function_of p k).blocks refl some
 
 -- ---- turns

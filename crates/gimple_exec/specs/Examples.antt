@@ -15,7 +15,7 @@ use Rattle.gimple_ir.specs.declared.program.Function.{Function}
 use Rattle.gimple_ir.specs.declared.program.Program.{Program}
 use Rattle.std.specs.List.{All}
 use Rattle.gimple_core.specs.Run.{main_name}
-use Rattle.gimple_core.specs.Sealed.{IsAccepted}
+use Rattle.gimple_core.specs.Accepted.{IsAccepted}
 
 abbrev pub a : List ℕ
 a = 97 ∷ []

@@ -2,7 +2,7 @@
 
 ghost use Rattle.std.specs.Prelude.{◌≡◌, ◌<◌, length, slice_index_or};
 ghost use Rattle.gimple_ir.specs.declared.declarations.Register.{Register};
-ghost use Rattle.gimple_core.specs.Names.{same_name};
+ghost use Rattle.std.specs.Str.{bytes_eq};
 ghost use Rattle.gimple_core.specs.State.{value_in, scalar_in, assigned};
 ghost use Rattle.gimple_exec.specs.Frames.{cells_of};
 ghost use Rattle.gimple_exec.specs.Places.{IsPlace};
@@ -32,7 +32,7 @@ impl<'a> Model for Cells<'a> {
 
 /// The place of the first register of a name.
 fn place(registers: &RegisterTable, name: &Text) -> Option<usize>
-    ensures { IsPlace (λ r. same_name r.name name.now) registers.now result }
+    ensures { IsPlace (λ r. bytes_eq r.name name.now) registers.now result }
 {
     let at = registers.place(name);
     if at < registers.as_slice().len() {

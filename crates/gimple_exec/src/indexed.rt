@@ -1,7 +1,7 @@
 //! A program with what is found in it again and again.
 
 ghost use Rattle.std.specs.Prelude.{◌≡◌, ◌<◌, ◌==◌, [], ◌↔◌, IfOk, IsTrue, length};
-ghost use Rattle.gimple_core.specs.Names.{same_name};
+ghost use Rattle.std.specs.Str.{bytes_eq};
 ghost use Rattle.gimple_exec.specs.Places.{IsPlace};
 ghost use Rattle.gimple_exec.specs.Frames.{declared_by};
 ghost use Rattle.gimple_exec.specs.Machines.{function_of, block_of, IsLimited};
@@ -120,7 +120,7 @@ impl<'a> Indexed<'a> {
 
     /// The first function of a name.
     pub fn named_place(&self, name: &Text) -> Option<usize>
-        ensures { IsPlace (λ f. same_name f.name name.now) self.now.functions result }
+        ensures { IsPlace (λ f. bytes_eq f.name name.now) self.now.functions result }
     {
         self.functions.place(name)
     }

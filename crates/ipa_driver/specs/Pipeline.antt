@@ -3,7 +3,7 @@ use Rattle.std.specs.Prelude.{◌≡◌, ℕ, ℤ, ◌+◌, ◌*◌, ◌/◌, �
 use Rattle.gimple_ir.specs.declared.options.Passes.{Passes}
 use Rattle.gimple_ir.specs.declared.options.Params.{Params}
 use Rattle.gimple_ir.specs.declared.program.Program.{Program}
-use Rattle.gimple_core.specs.Sealed.{Sealed, IsAccepted}
+use Rattle.gimple_core.specs.Accepted.{IsAccepted}
 use Rattle.gimple_ir.specs.Size.{size_of_program}
 use Rattle.gimple_core.specs.Reach.{IsWithoutUnreached}
 use Rattle.gimple_core.specs.Run.{Run}

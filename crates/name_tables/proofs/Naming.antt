@@ -11,7 +11,6 @@ use Rattle.std.proofs.lemmas.List.Folds.{find_at}
 use Rattle.std.proofs.lemmas.List.Sums.{prefix_len-le-length}
 use Rattle.std.proofs.lemmas.Option.{slice_get_past, slice_get-get_or}
 use Rattle.gimple_ir.specs.declared.declarations.Register.{Register}
-use Rattle.gimple_core.specs.Names.{same_name}
 use Rattle.gimple_core.proofs.EnvLemmas.{same_test}
 
 -- ---- the place of the first item that passes, in a list made from another
@@ -32,8 +31,8 @@ abbrev pub plain : List (Bor (List ℕ)) → List (List ℕ)
 plain keys = map (λ k. k.now) keys
 
 -- the place in the set is the place in the row
-pub set_place : (name : List ℕ) (keys : List (Bor (List ℕ))) → position (is_key name) keys ≡ position (λ n. same_name n name) (plain keys)
-set_place name keys = sym (position_map (λ (k : Bor (List ℕ)). k.now) (λ n. same_name n name) (is_key name) (λ k. sym (same_test name k.now)) keys)
+pub set_place : (name : List ℕ) (keys : List (Bor (List ℕ))) → position (is_key name) keys ≡ position (λ n. bytes_eq n name) (plain keys)
+set_place name keys = sym (position_map (λ (k : Bor (List ℕ)). k.now) (λ n. bytes_eq n name) (is_key name) (λ k. sym (same_test name k.now)) keys)
 
 -- ---- a set of labels
 
@@ -50,8 +49,8 @@ label_place label labels = λ i. cond (nat_lt (place_or_len_same (λ l. label ==
 -- ---- a set of the names of registers
 
 -- the place in the set is the place in the row, whatever holds the bytes of a name
-key_place : {K : Type 0} (bytes : K → List ℕ) (name : List ℕ) (keys : List K) → position (λ k. bytes_eq name (bytes k)) keys ≡ position (λ n. same_name n name) (map bytes keys)
-key_place bytes name keys = sym (position_map bytes (λ n. same_name n name) (λ k. bytes_eq name (bytes k)) (λ k. sym (same_test name (bytes k))) keys)
+key_place : {K : Type 0} (bytes : K → List ℕ) (name : List ℕ) (keys : List K) → position (λ k. bytes_eq name (bytes k)) keys ≡ position (λ n. bytes_eq n name) (map bytes keys)
+key_place bytes name keys = sym (position_map bytes (λ n. bytes_eq n name) (λ k. bytes_eq name (bytes k)) (λ k. sym (same_test name (bytes k))) keys)
 
 or_length : (n len : ℕ) → n ≤ len → unwrap_or (cond (nat_lt n len) (Some n) None) len ≡ n
 or_length n len h = by (nat_lt n len) refl
@@ -63,25 +62,25 @@ or_length n len h = by (nat_lt n len) refl
         omega (arith, low, h)
 
 -- the number of a register by its name's place among the keys
-pub register_place : {K : Type 0} (bytes : K → List ℕ) (key name : List ℕ) (keys : List K) (rs : List Register) (r : Option ℕ) → key ≡ name → r ≡ position (λ k. bytes_eq key (bytes k)) keys → map bytes keys ≡ map (λ s. s.name) rs → unwrap_or r (length rs) ≡ position_or_len (λ s. same_name s.name name) rs
+pub register_place : {K : Type 0} (bytes : K → List ℕ) (key name : List ℕ) (keys : List K) (rs : List Register) (r : Option ℕ) → key ≡ name → r ≡ position (λ k. bytes_eq key (bytes k)) keys → map bytes keys ≡ map (λ s. s.name) rs → unwrap_or r (length rs) ≡ position_or_len (λ s. bytes_eq s.name name) rs
 register_place bytes key name keys rs r same found names =
-    let at : r ≡ position (λ s. same_name s.name name) rs =
+    let at : r ≡ position (λ s. bytes_eq s.name name) rs =
     found
     ∙ ap (λ (n : List ℕ). position (λ k. bytes_eq n (bytes k)) keys) same
     ∙ key_place bytes name keys
-    ∙ ap (λ (ns : List (List ℕ)). position (λ n. same_name n name) ns) names
-    ∙ position_map (λ (s : Register). s.name) (λ n. same_name n name) (λ s. same_name s.name name) (λ s. refl) rs in
-    ap (λ (o : Option ℕ). unwrap_or o (length rs)) at ∙ or_length (position_or_len (λ s. same_name s.name name) rs) (length rs) (prefix_len-le-length (λ (s : Register). not (same_name s.name name)) rs)
+    ∙ ap (λ (ns : List (List ℕ)). position (λ n. bytes_eq n name) ns) names
+    ∙ position_map (λ (s : Register). s.name) (λ n. bytes_eq n name) (λ s. bytes_eq s.name name) (λ s. refl) rs in
+    ap (λ (o : Option ℕ). unwrap_or o (length rs)) at ∙ or_length (position_or_len (λ s. bytes_eq s.name name) rs) (length rs) (prefix_len-le-length (λ (s : Register). not (bytes_eq s.name name)) rs)
 
 -- ---- rows of things with names
 
 -- the place of a name among the names of a row is that of the first thing that has it
-pub place_in : {X : Type 0} (of : X → List ℕ) (xs : List X) (names : List (List ℕ)) (key name : List ℕ) (r : Option ℕ) → names ≡ map of xs → key ≡ name → r ≡ position (λ n. same_name n key) names → r ≡ position (λ x. same_name (of x) name) xs
+pub place_in : {X : Type 0} (of : X → List ℕ) (xs : List X) (names : List (List ℕ)) (key name : List ℕ) (r : Option ℕ) → names ≡ map of xs → key ≡ name → r ≡ position (λ n. bytes_eq n key) names → r ≡ position (λ x. bytes_eq (of x) name) xs
 place_in of xs names key name r row same found =
     found
-    ∙ ap (λ (k : List ℕ). position (λ n. same_name n k) names) same
-    ∙ ap (λ (ns : List (List ℕ)). position (λ n. same_name n name) ns) row
-    ∙ position_map of (λ n. same_name n name) (λ x. same_name (of x) name) (λ x. refl) xs
+    ∙ ap (λ (k : List ℕ). position (λ n. bytes_eq n k) names) same
+    ∙ ap (λ (ns : List (List ℕ)). position (λ n. bytes_eq n name) ns) row
+    ∙ position_map of (λ n. bytes_eq n name) (λ x. bytes_eq (of x) name) (λ x. refl) xs
 
 -- what stands at the first place
 pub found_there : {X : Type 0} (p : X → Bool) (xs : List X) (k : ℕ) → position p xs ≡ Some k → slice_get xs k ≡ find p xs

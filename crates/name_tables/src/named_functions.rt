@@ -2,7 +2,7 @@
 
 ghost use Rattle.std.specs.Prelude.{◌≡◌, IfOk, find, length, map, position};
 ghost use Rattle.std.specs.Option.{option_copied};
-ghost use Rattle.gimple_core.specs.Names.{same_name};
+ghost use Rattle.std.specs.Str.{bytes_eq};
 
 use crate::names::Names;
 use gimple_core::{Function, OutOfMemory, Text};
@@ -55,14 +55,14 @@ impl<'a> NamedFunctions<'a> {
 
     /// The place of the first function of a name; None exactly where no function has it.
     pub fn place(&self, name: &Text) -> Option<usize>
-        ensures { result ≡ position (λ f. same_name f.name name.now) self.now }
+        ensures { result ≡ position (λ f. bytes_eq f.name name.now) self.now }
     {
         self.names.place(name.as_slice())
     }
 
     /// The first function of a name; None exactly where no function has it.
     pub fn named(&self, name: &Text) -> Option<&'a Function>
-        ensures { option_copied result ≡ find (λ f. same_name f.name name.now) self.now }
+        ensures { option_copied result ≡ find (λ f. bytes_eq f.name name.now) self.now }
     {
         match self.place(name) {
             Some(place) => self.functions.get(place),

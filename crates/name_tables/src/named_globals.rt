@@ -3,7 +3,7 @@
 ghost use Rattle.std.specs.Prelude.{◌≡◌, IfOk, find, map, position, slice_get};
 ghost use Rattle.std.specs.List.{list_any};
 ghost use Rattle.std.specs.Option.{option_copied};
-ghost use Rattle.gimple_core.specs.Names.{same_name};
+ghost use Rattle.std.specs.Str.{bytes_eq};
 
 use crate::names::Names;
 use gimple_core::{Global, OutOfMemory, Text};
@@ -56,14 +56,14 @@ impl<'a> NamedGlobals<'a> {
 
     /// The place of the first global of a name; None exactly where no global has it.
     pub fn place(&self, name: &Text) -> Option<usize>
-        ensures { result ≡ position (λ g. same_name g.decl.name name.now) self.now }
+        ensures { result ≡ position (λ g. bytes_eq g.decl.name name.now) self.now }
     {
         self.names.place(name.as_slice())
     }
 
     /// The first global of a name; None exactly where no global has it.
     pub fn named(&self, name: &Text) -> Option<&Global>
-        ensures { option_copied result ≡ find (λ g. same_name g.decl.name name.now) self.now }
+        ensures { option_copied result ≡ find (λ g. bytes_eq g.decl.name name.now) self.now }
     {
         match self.place(name) {
             Some(place) => self.get(place),
@@ -73,7 +73,7 @@ impl<'a> NamedGlobals<'a> {
 
     /// Whether a global has the name.
     pub fn has(&self, name: &Text) -> bool
-        ensures { result ≡ list_any (λ g. same_name g.decl.name name.now) self.now }
+        ensures { result ≡ list_any (λ g. bytes_eq g.decl.name name.now) self.now }
     {
         self.place(name).is_some()
     }

@@ -2,7 +2,7 @@
 
 ghost use Rattle.std.specs.Prelude.{◌≡◌, IfOk, map, position};
 ghost use Rattle.std.specs.List.{list_any};
-ghost use Rattle.gimple_core.specs.Names.{same_name};
+ghost use Rattle.std.specs.Str.{bytes_eq};
 
 use crate::names::Names;
 use gimple_core::{Decl, OutOfMemory, Text};
@@ -48,14 +48,14 @@ impl<'a> NamedLocals<'a> {
 
     /// The place of the first local of a name; None exactly where no local has it.
     pub fn place(&self, name: &Text) -> Option<usize>
-        ensures { result ≡ position (λ d. same_name d.name name.now) self.now }
+        ensures { result ≡ position (λ d. bytes_eq d.name name.now) self.now }
     {
         self.names.place(name.as_slice())
     }
 
     /// Whether a local has the name.
     pub fn has(&self, name: &Text) -> bool
-        ensures { result ≡ list_any (λ d. same_name d.name name.now) self.now }
+        ensures { result ≡ list_any (λ d. bytes_eq d.name name.now) self.now }
     {
         self.place(name).is_some()
     }

@@ -1,7 +1,7 @@
 //! Names in a row.
 
 ghost use Rattle.std.specs.Prelude.{◌≡◌, ◌++◌, ◌∷◌, [], OnOk, position, map};
-ghost use Rattle.gimple_core.specs.Names.{same_name};
+ghost use Rattle.std.specs.Str.{bytes_eq};
 
 use gimple_core::OutOfMemory;
 use indexmap::IndexSet;
@@ -31,13 +31,13 @@ impl<'a> Model for Names<'a> {
 
 #[tactic(auto, using(gimple_core::proofs::EnvLemmas::same_test))]
 fn is_same(left: &[u8], right: &[u8]) -> bool
-    ensures { result ≡ same_name left.now right.now }
+    ensures { result ≡ bytes_eq left.now right.now }
 {
     right == left
 }
 
 fn place_from_front(names: &[&[u8]], name: &[u8]) -> Option<usize>
-    ensures { result ≡ position (λ n. same_name n.now name.now) names.now }
+    ensures { result ≡ position (λ n. bytes_eq n.now name.now) names.now }
 {
     names.iter().position(|n| is_same(n, name))
 }
@@ -70,7 +70,7 @@ impl<'a> Names<'a> {
 
     /// The place of the first name that is this one; None exactly where no name is.
     pub fn place(&self, name: &[u8]) -> Option<usize>
-        ensures { result ≡ position (λ n. same_name n name.now) self.now }
+        ensures { result ≡ position (λ n. bytes_eq n name.now) self.now }
     {
         if self.distinct && self.names.len() > FEW {
             return self.set.get_index_of(name);

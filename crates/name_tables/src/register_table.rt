@@ -3,7 +3,7 @@
 ghost use Rattle.std.specs.Prelude.{◌≡◌, ◌++◌, ◌∷◌, [], OnOk, find};
 ghost use Rattle.std.specs.List.{position_or_len};
 ghost use Rattle.std.specs.Option.{option_copied};
-ghost use Rattle.gimple_core.specs.Names.{same_name};
+ghost use Rattle.std.specs.Str.{bytes_eq};
 
 use gimple_core::{OutOfMemory, Register, Registers, Text, same_name};
 use indexmap::IndexSet;
@@ -34,7 +34,7 @@ impl Model for RegisterTable {
 
 /// The number of the first register of a name, or how many there are.
 fn place_from_front(registers: &[Register], name: &Text) -> usize
-    ensures { result ≡ position_or_len (λ r. same_name r.name name.now) registers.now }
+    ensures { result ≡ position_or_len (λ r. bytes_eq r.name name.now) registers.now }
 {
     for place in 0..registers.len() {
         if same_name(&registers[place].name, name) {
@@ -80,7 +80,7 @@ impl RegisterTable {
 
     /// The number of the first register of a name, or how many there are.
     pub fn place(&self, name: &Text) -> usize
-        ensures { result ≡ position_or_len (λ r. same_name r.name name.now) self.now }
+        ensures { result ≡ position_or_len (λ r. bytes_eq r.name name.now) self.now }
     {
         if self.distinct && self.registers.len() > FEW {
             let found = self.names.get_index_of(name.as_slice());
@@ -91,7 +91,7 @@ impl RegisterTable {
 
     /// The first register of a name; None exactly where no register has it.
     pub fn named(&self, name: &Text) -> Option<&Register>
-        ensures { option_copied result ≡ find (λ r. same_name r.name name.now) self.now }
+        ensures { option_copied result ≡ find (λ r. bytes_eq r.name name.now) self.now }
     {
         self.registers.get(self.place(name))
     }

@@ -7,7 +7,7 @@ use Rattle.gimple_ir.specs.declared.program.Program.{Program}
 use Rattle.gimple_core.specs.Accepted.{checked, first_fault}
 use Rattle.gimple_core.specs.Declarations as check
 use Rattle.gimple_core.specs.Env.{has, structs_by_name}
-use Rattle.gimple_core.specs.Sealed.{IsAccepted}
+use Rattle.gimple_core.specs.Accepted.{IsAccepted}
 use Rattle.gimple_core.specs.Verdict.{demand, at}
 use Rattle.gimple_core.proofs.Passed.{first_passed, demanded, at_passed, no_fault, not_true}
 use Rattle.struct_tables.specs.Tables.{CanFollow, CanAllFollow, HaveTable}

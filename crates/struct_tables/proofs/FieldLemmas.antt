@@ -8,7 +8,7 @@ use Rattle.gimple_ir.specs.declared.declarations.Decl.{Decl}
 use Rattle.gimple_ir.specs.declared.declarations.Shape.{Shape}
 use Rattle.gimple_ir.specs.declared.declarations.Shape.TheVariants.{Plain, Named}
 use Rattle.gimple_ir.specs.declared.declarations.StructDef.{StructDef}
-use Rattle.gimple_core.specs.Names.{same_name}
+use Rattle.std.specs.Str.{bytes_eq}
 use Rattle.gimple_ir.specs.declared.value.Layout.{Layout}
 use Rattle.gimple_core.specs.declared.layout.KnownLayout.{KnownLayout}
 use Rattle.gimple_core.specs.Layout.{empty_layout, moved, known_layout, shape_layout, decl_layout, with_field, with_fields, IsLayout}
@@ -88,5 +88,5 @@ plain_not known shape own z scalar e l = ap (λ s. has_slot (shape_layout known 
 
 -- the layout of an element that is a struct
 pub named_layout : (known before : List KnownLayout) (shape : Shape) (name : List ℕ) (s : StructDef) → shape ≡ Named name
-    → find (λ k. same_name k.name name) known ≡ Some (record { name = s.name; layout = with_fields before empty_layout s.fields }) → shape_layout known shape ≡ with_fields before empty_layout s.fields
+    → find (λ k. bytes_eq k.name name) known ≡ Some (record { name = s.name; layout = with_fields before empty_layout s.fields }) → shape_layout known shape ≡ with_fields before empty_layout s.fields
 named_layout known before shape name s e f = ap (shape_layout known) e ∙ ap known_layout f

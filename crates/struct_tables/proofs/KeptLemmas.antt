@@ -9,7 +9,6 @@ use Rattle.gimple_ir.specs.declared.declarations.StructDef.{StructDef}
 use Rattle.gimple_core.specs.declared.layout.KnownLayout.{KnownLayout}
 use Rattle.gimple_core.specs.Env.{named, has, structs_by_name}
 use Rattle.gimple_core.specs.Layout.{empty_layout, with_fields, struct_layouts}
-use Rattle.gimple_core.specs.Names.{same_name}
 use Rattle.gimple_core.proofs.EnvLemmas.{same_test}
 use Rattle.gimple_core.proofs.LayoutLemmas.{entry}
 use Rattle.struct_tables.specs.Sizes.{extent_of, field_starts, slots_before, definitions, first_layouts, IsKept, AreKept}
@@ -24,7 +23,7 @@ no_value None h = refl
 no_value (Some x) h = absurd (true≢false h)
 
 abbrev is_named : List ℕ → KnownLayout → Bool
-is_named name k = same_name k.name name
+is_named name k = bytes_eq k.name name
 
 abbrev Entry : Type 0
 Entry = Bor (List ℕ) × Kept

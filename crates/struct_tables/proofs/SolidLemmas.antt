@@ -12,7 +12,7 @@ use Rattle.gimple_ir.specs.declared.scalar.Scalar.TheVariants.{I8, I16, I32, I64
 use Rattle.gimple_ir.specs.declared.value.Layout.{Layout}
 use Rattle.gimple_core.specs.declared.layout.KnownLayout.{KnownLayout}
 use Rattle.gimple_core.specs.Layout.{empty_layout, round_up, moved, known_layout, shape_layout, count_of, decl_layout, with_field, with_fields, struct_layouts, IsLayout}
-use Rattle.gimple_core.specs.Names.{same_name}
+use Rattle.std.specs.Str.{bytes_eq}
 use Rattle.gimple_core.proofs.LayoutLemmas.{entry, round_up-least, empty_is, plain_is, decl_is, field_is, fields_is}
 use Rattle.struct_tables.specs.Sizes.{extent_of, extent_after, extent_rounded, extent_with, field_start, field_end, definitions, first_layouts, IsSolid, IsKept, AreKept}
 use Rattle.struct_tables.specs.declared.structs.Extent.{Extent}
@@ -49,7 +49,7 @@ found_solid test (x ∷ xs) h = found_of x (find test xs) (test x) (All-head Sol
 
 pub shape_solid : (known : List KnownLayout) (shape : Shape) → All Solid known → IsSolid (shape_layout known shape)
 shape_solid known (Plain scalar) h = plain_solid known scalar
-shape_solid known (Named name) h = found_solid (λ k. same_name k.name name) known h
+shape_solid known (Named name) h = found_solid (λ k. bytes_eq k.name name) known h
 
 -- ---- no more slots than bytes
 

@@ -9,7 +9,7 @@ use Rattle.gimple_ir.specs.declared.declarations.Decl.{Decl}
 use Rattle.gimple_ir.specs.declared.declarations.StructDef.{StructDef}
 use Rattle.gimple_core.specs.declared.layout.KnownLayout.{KnownLayout}
 use Rattle.gimple_core.specs.Layout.{empty_layout, moved, round_up, decl_layout, with_fields, struct_layouts, IsLayout}
-use Rattle.gimple_core.specs.Names.{same_name}
+use Rattle.std.specs.Str.{bytes_eq}
 use Rattle.struct_tables.specs.declared.structs.Extent.{Extent}
 use Rattle.struct_tables.specs.declared.structs.Kept.{Kept}
 
@@ -90,9 +90,9 @@ AreKept before (e ∷ es) = IsKept before e × AreKept (before ++ record { name 
 
 -- what is kept of the first struct of a name among the first ones
 abbrev pub IsFirst : List StructDef → ℕ → List ℕ → Option Kept → Type 0
-IsFirst ss bound name None = find (λ k. same_name k.name name) (first_layouts bound ss) ≡ None
+IsFirst ss bound name None = find (λ k. bytes_eq k.name name) (first_layouts bound ss) ≡ None
 IsFirst ss bound name (Some kept) = (kept.number < bound)
-    × (find (λ k. same_name k.name name) (first_layouts bound ss) ≡ Some (record { name = kept.definition.now.name; layout = with_fields (first_layouts kept.number ss) empty_layout kept.definition.now.fields }))
+    × (find (λ k. bytes_eq k.name name) (first_layouts bound ss) ≡ Some (record { name = kept.definition.now.name; layout = with_fields (first_layouts kept.number ss) empty_layout kept.definition.now.fields }))
     × (kept.extent ≡ extent_of (with_fields (first_layouts kept.number ss) empty_layout kept.definition.now.fields))
     × (kept.starts.offsets.items ≡ field_starts (first_layouts kept.number ss) 0 kept.definition.now.fields)
     × (kept.starts.slots.items ≡ slots_before (first_layouts kept.number ss) 0 kept.definition.now.fields)

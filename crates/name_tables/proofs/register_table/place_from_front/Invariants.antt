@@ -1,7 +1,7 @@
 use Rattle.std.proofs.Common.{◌≡◌, ◌+◌, drop}
 use Rattle.std.specs.List.{position_or_len}
-use Rattle.gimple_core.specs.Names.{same_name}
+use Rattle.std.specs.Str.{bytes_eq}
 use Rattle.name_tables.proofs.register_table.place_from_front.Given as goal
 
 abbrev pub invariant-loop-place : goal.invariant-loop-place
-invariant-loop-place l = l.place + position_or_len (λ r. same_name r.name l.name) (drop l.place l.registers) ≡ position_or_len (λ r. same_name r.name l.name) l.registers
+invariant-loop-place l = l.place + position_or_len (λ r. bytes_eq r.name l.name) (drop l.place l.registers) ≡ position_or_len (λ r. bytes_eq r.name l.name) l.registers

@@ -3,7 +3,7 @@ use Rattle.std.specs.List.{find}
 use Rattle.gimple_ir.specs.declared.scalar.Scalar.TheVariants.{I64}
 use Rattle.gimple_ir.specs.declared.declarations.Register.{Register}
 use Rattle.gimple_ir.specs.declared.operand.Operand.{Operand}
-use Rattle.gimple_core.specs.Names.{same_name}
+use Rattle.std.specs.Str.{bytes_eq}
 use Rattle.gimple_core.specs.Operators.{in_scalar}
 use Rattle.gimple_core.specs.Env.{is_variable}
 use Rattle.gimple_core.specs.Statements as check
@@ -15,14 +15,14 @@ use Rattle.body_fold.proofs.folder.Folder.admits.Goals as goal
 
 pub returns-in-Some : goal.returns-in-Some
 returns-in-Some c =
-    let found : find (λ (r : Register). same_name r.name c.in-Reg.name) c.args.self.now.scene.registers.now ≡ Some c.in-Some.register.now = search rules in
+    let found : find (λ (r : Register). bytes_eq r.name c.in-Reg.name) c.args.self.now.scene.registers.now ≡ Some c.in-Some.register.now = search rules in
     c.same_scalar.ensures
     ∙ sym (ap (λ (x : Operand). passes (check.operand (folding_in c.args.self.now).env 4 c.args.scalar x)) c.in-Reg.is
     ∙ found_passes c.args.self.now.scene.program.now c.args.self.now.function.now c.args.self.now.scene.registers.now c.args.scalar c.in-Reg.name c.in-Some.register.now c.requires.folder.registers found)
 
 pub returns-in-None : goal.returns-in-None
 returns-in-None c =
-    let found : find (λ (r : Register). same_name r.name c.in-Reg.name) c.args.self.now.scene.registers.now ≡ None = search rules in
+    let found : find (λ (r : Register). bytes_eq r.name c.in-Reg.name) c.args.self.now.scene.registers.now ≡ None = search rules in
     sym (ap (λ (x : Operand). passes (check.operand (folding_in c.args.self.now).env 4 c.args.scalar x)) c.in-Reg.is
     ∙ lost_fails c.args.self.now.scene.program.now c.args.self.now.function.now c.args.self.now.scene.registers.now c.args.scalar c.in-Reg.name c.requires.folder.registers found)
 
