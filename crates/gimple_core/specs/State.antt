@@ -1,5 +1,5 @@
 -- The state of a run.
-use Rattle.std.specs.Prelude.{find, position, unwrap_or, slice_get, slice_set, ◌++◌, ℕ, ℤ, pos, if◌then◌else◌, List, Option, Some, None}
+use Rattle.std.specs.Prelude.{find, position, unwrap_or, slice_get, slice_set, ◌++◌, ℕ, ℤ, pos, Bool, true, false, if◌then◌else◌, List, Option, Some, None}
 use Rattle.gimple_ir.specs.declared.scalar.Scalar.{Scalar}
 use Rattle.gimple_ir.specs.declared.scalar.Scalar.TheVariants.{I64, Ptr}
 use Rattle.gimple_ir.specs.declared.value.Value.{Value}
@@ -112,3 +112,14 @@ number_in scalar (Code name) = pos 0
 -- an offset, which lies in i64 in every program without a type fault
 abbrev pub offset_in : ℤ → ℤ
 offset_in z = number_in I64 (Int z)
+
+-- the value is of the scalar: a number in range for an integer scalar; null, a function, or a pointer whose offset is an i64 for `ptr`
+abbrev pub is_of : Scalar → Value → Bool
+is_of Ptr (Int z) = false
+is_of Ptr Null = true
+is_of Ptr (At object offset) = in_scalar I64 offset
+is_of Ptr (Code name) = true
+is_of scalar (Int z) = in_scalar scalar z
+is_of scalar Null = false
+is_of scalar (At object offset) = false
+is_of scalar (Code name) = false
