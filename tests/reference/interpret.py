@@ -1,11 +1,12 @@
 #!/usr/bin/env python3
 """A second, plain interpreter of the language of docs/LANGUAGE.md, for comparing outcomes.
 
-Usage: reference.py FILE [TURNS [NUMBER ..]]: prints what the program printed and its last line, as gimple-run does.
-It takes accepted programs and checks nothing that the checker checks.
+Usage: interpret.py [-fwrapv | -ftrapv | --turns=N].. FILE [NUMBER]..: prints what the program printed and its last line, as
+gimple-run does on the same words. It takes accepted programs and lawful words, and checks neither.
 """
 import re
 import sys
+from typing import NamedTuple
 
 BITS = {"i8": 8, "i16": 16, "i32": 32, "i64": 64, "u8": 8, "u16": 16, "u32": 32, "u64": 64}
 SIZE = {name: bits // 8 for name, bits in BITS.items()} | {"ptr": 8}
@@ -16,6 +17,11 @@ TOKEN = re.compile(r"\s+|//[^\n]*|([A-Za-z_][A-Za-z0-9_.]*|[0-9]+|<=|>=|==|!=|<<
 
 class Trap(Exception):
     pass
+
+
+class Code(NamedTuple):
+    """A function value. The other values are numbers, None for null, and pairs of an object and an offset."""
+    name: str
 
 
 class Parser:
@@ -92,9 +98,27 @@ class Parser:
         self.take(">")
         return label
 
+    def scalars(self):
+        """The scalars of the formals that an indirect call writes."""
+        self.take("(")
+        out = []
+        while not self.has(")"):
+            out.append(self.take())
+            self.has(",")
+        return out
+
+    def indirect(self, to):
+        """A call through a register: its target, the result and the formals' scalars, the register, the arguments."""
+        assert self.profile == 2
+        self.take("*")
+        self.take("<")
+        result, formals = self.take(), self.scalars()
+        self.take(">")
+        return ("indirect", to, result, formals, self.take(), self.args())
+
     def program(self):
         self.take("gimple")
-        self.take()
+        self.profile = int(self.take())
         self.take(";")
         structs, globals_, functions = {}, [], {}
         while self.has("struct"):
@@ -206,6 +230,8 @@ class Parser:
             self.take("(")
             self.take(")")
             out = ("abort",)
+        elif token == "*":
+            out = self.indirect(None)
         else:
             name = self.take()
             if self.peek() == "(":
@@ -230,6 +256,8 @@ class Parser:
             self.take("(")
             self.take(")")
             return ("get", to)
+        if token == "*":
+            return self.indirect(to)
         left = self.operand()
         if left[0] == "reg" and self.peek() == "(":
             return ("call", to, left[1], self.args())
@@ -250,27 +278,23 @@ def signed64(value):
     return wrap("i64", value)
 
 
-def evaluate(op, scalar, a, b):
+def fitting(scalar, value):
+    """The value, which has to be one of the scalar."""
+    if wrap(scalar, value) != value:
+        raise Trap("Overflow")
+    return value
+
+
+def evaluate(wraps, op, scalar, a, b):
+    """An operator on integers. The mode, whether signed sums wrap, touches `+`, `-` and `*` alone."""
     bits = BITS[scalar]
-
-    def kept(value):
-        if scalar[0] == "u":
-            return wrap(scalar, value)
-        if wrap(scalar, value) != value:
-            raise Trap("Overflow")
-        return value
-
-    if op == "+":
-        return kept(a + b)
-    if op == "-":
-        return kept(a - b)
-    if op == "*":
-        return kept(a * b)
+    if op in "+-*":
+        value = {"+": a + b, "-": a - b, "*": a * b}[op]
+        return wrap(scalar, value) if wraps or scalar[0] == "u" else fitting(scalar, value)
     if op in "/%":
         if b == 0:
             raise Trap("Divide")
-        quotient = abs(a) // abs(b) * (1 if (a < 0) == (b < 0) else -1)
-        kept(quotient)
+        quotient = fitting(scalar, abs(a) // abs(b) * (1 if (a < 0) == (b < 0) else -1))
         return quotient if op == "/" else a - quotient * b
     if op in ("<<", ">>"):
         if not 0 <= b < bits:
@@ -288,8 +312,9 @@ def compare(cmp, a, b):
 
 
 class Machine:
-    def __init__(self, program, numbers):
+    def __init__(self, program, wraps, numbers):
         self.structs, self.globals, self.functions = program
+        self.wraps = wraps
         self.numbers = list(numbers)
         self.output = []
         self.objects = {}
@@ -333,20 +358,25 @@ class Machine:
             return None
         if operand[0] == "reg":
             return frame["values"][operand[1]]
-        return (self.variable(frame, operand[1]), operand[2])
+        variable = self.variable(frame, operand[1])
+        return Code(operand[1]) if variable is None else (variable, operand[2])
 
     def variable(self, frame, name):
+        """The object of a variable's name; None for a name that only a function has."""
         if frame:
             for k, local in enumerate(frame["function"]["locals"]):
                 if local[0] == name:
                     return ("l", frame["serial"], k)
-        return ("g", [g[0][0] for g in self.globals].index(name))
+        names = [g[0][0] for g in self.globals]
+        return ("g", names.index(name)) if name in names else None
 
     def access(self, frame, place, store):
         scalar, base, offset = place
         pointer = (self.variable(frame, base[1]), 0) if base[0] == "var" else frame["values"][base[1]]
         if pointer is None:
             raise Trap("NullAccess")
+        if isinstance(pointer, Code):
+            raise Trap("BadSlot")
         offset = signed64(pointer[1] + offset)
         if pointer[0] not in self.objects:
             raise Trap("Dangling")
@@ -358,6 +388,20 @@ class Machine:
         if store and found["constant"]:
             raise Trap("ReadOnly")
         return found["slots"], (offset, scalar)
+
+    def called(self, frame, statement):
+        """The function that a call enters, its arguments, and the register that takes the result."""
+        if statement[0] == "call":
+            _, to, name, arguments = statement
+            return name, arguments, to
+        _, to, result, formals, register, arguments = statement
+        value = frame["values"][register]
+        if value is None:
+            raise Trap("NullAccess")
+        function = self.functions.get(value.name) if isinstance(value, Code) else None
+        if function is None or result != function["result"] or formals != [scalar for scalar, _ in function["params"]]:
+            raise Trap("BadCall")
+        return value.name, arguments, to
 
     def enter(self, name, values, takes):
         function = self.functions[name]
@@ -380,12 +424,12 @@ class Machine:
                 if frame["index"] < len(body):
                     statement = body[frame["index"]]
                     frame["index"] += 1
-                    if statement[0] == "call":
+                    if statement[0] in ("call", "indirect"):
+                        name, arguments, to = self.called(frame, statement)
                         if turns == 0:
                             return "going"
                         turns -= 1
-                        values = [self.value(frame, a) for a in statement[3]]
-                        frames.append(self.enter(statement[2], values, statement[1]))
+                        frames.append(self.enter(name, [self.value(frame, a) for a in arguments], to))
                     else:
                         self.execute(frame, statement)
                     continue
@@ -425,9 +469,9 @@ class Machine:
             _, to, left, op, right = statement
             a, b = self.value(frame, left), self.value(frame, right)
             if frame["scalars"][to] == "ptr":
-                values[to] = None if a is None else (a[0], signed64(a[1] + b))
+                values[to] = (a[0], signed64(a[1] + b)) if isinstance(a, tuple) and not isinstance(a, Code) else a
             else:
-                values[to] = evaluate(op, frame["scalars"][to], a, b)
+                values[to] = evaluate(self.wraps, op, frame["scalars"][to], a, b)
         elif kind == "compare":
             values[statement[1]] = int(compare(statement[3], self.value(frame, statement[2]), self.value(frame, statement[4])))
         elif kind == "convert":
@@ -447,10 +491,16 @@ class Machine:
 
 
 def main():
-    with open(sys.argv[1]) as file:
-        program = Parser(file.read()).program()
-    turns = int(sys.argv[2]) if len(sys.argv) > 2 else 1000000
-    machine = Machine(program, [int(word) for word in sys.argv[3:]])
+    words = sys.argv[1:]
+    wraps, turns = False, 1000000
+    while words[0].startswith("-") and words[0] != "-":
+        word = words.pop(0)
+        if word.startswith("--turns="):
+            turns = int(word.removeprefix("--turns="))
+        else:
+            wraps = word == "-fwrapv"
+    text = sys.stdin.read() if words[0] == "-" else open(words[0], encoding="latin-1").read()
+    machine = Machine(Parser(text).program(), wraps, [int(word) for word in words[1:]])
     last = machine.run(turns)
     for line in machine.output + [last]:
         print(line)
