@@ -1,5 +1,6 @@
 """The measurements of bench/run: processor time, speed, peak memory, and growth where the input doubles."""
 import os
+import subprocess
 import sys
 import tempfile
 
@@ -202,12 +203,18 @@ def growing(tool, kinds, counts, what):
             before = seconds
 
 
+def proved(top, name):
+    """The path of a proved program, which is proved and built first where it is not."""
+    done = subprocess.run([os.path.join(top, "bin", "built"), "--prove", name], stdout=subprocess.PIPE, text=True, check=True)
+    return done.stdout.strip()
+
+
 def main():
     top, words = sys.argv[1], sys.argv[2:]
     quick = "--quick" in words
     tools = [word for word in words if word != "--quick"]
-    optimiser = tools[0] if tools else os.path.join(top, "bin", "gimple-ipa")
-    runner = tools[1] if len(tools) > 1 else os.path.join(top, "bin", "gimple-run")
+    optimiser = tools[0] if tools else proved(top, "gimple-ipa")
+    runner = tools[1] if len(tools) > 1 else proved(top, "gimple-run")
     engine = tools[2] if len(tools) > 2 else os.path.join(top, "crates", "bench_engine", "out", "bench_engine")
     operators = tools[3] if len(tools) > 3 else os.path.join(top, "crates", "bench_values", "out", "bench_values")
     print(f"{os.cpu_count()} processors")
