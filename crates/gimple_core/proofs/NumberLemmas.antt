@@ -6,6 +6,8 @@ use Rattle.std.proofs.Math.Dec.{eqb-suc-zero}
 use Rattle.std.specs.Int.{w128, cast_unsigned}
 use Rattle.std.proofs.Math.Pow.{mod-mod-pow}
 use Rattle.gimple_ir.specs.declared.scalar.Scalar.{Scalar}
+use Rattle.gimple_ir.specs.declared.scalar.Mode.{Mode}
+use Rattle.gimple_ir.specs.declared.scalar.Mode.TheVariants.{Trap, Wrap}
 use Rattle.gimple_ir.specs.declared.scalar.Scalar.TheVariants.{I8, I16, I32, I64, U8, U16, U32, U64, Ptr}
 use Rattle.gimple_core.specs.Operators.{IsWord, IsSignedWord, modulus_of, wrapped, of_bits, is_signed, in_scalar, kept}
 
@@ -82,7 +84,12 @@ not_negative U32 (negsuc n) s h = cc
 not_negative U64 (negsuc n) s h = cc
 not_negative Ptr (negsuc n) s h = cc
 
+-- in either mode a result of an unsigned scalar wraps
+unsigned_wraps : (mode : Mode) (scalar : Scalar) (z : ℤ) → is_signed scalar ≡ false → kept mode scalar z ≡ Ok (wrapped scalar z)
+unsigned_wraps Trap scalar z s = rw s refl
+unsigned_wraps Wrap scalar z s = refl
+
 -- the product of two numbers of an unsigned scalar
-pub unsigned_product : (scalar : Scalar) (l r : ℤ) → is_signed scalar ≡ false → in_scalar scalar l ≡ true → in_scalar scalar r ≡ true → kept scalar (l *ℤ r) ≡ Ok (wrapped scalar (pos (unsigned_abs l * unsigned_abs r)))
-unsigned_product scalar l r s h k =
-    rw s (ap (λ (z : ℤ). Ok (wrapped scalar z)) (sym (ap (λ (z : ℤ). z *ℤ r) (not_negative scalar l s h)) ∙ sym (ap (λ (z : ℤ). pos (unsigned_abs l) *ℤ z) (not_negative scalar r s k))))
+pub unsigned_product : (mode : Mode) (scalar : Scalar) (l r : ℤ) → is_signed scalar ≡ false → in_scalar scalar l ≡ true → in_scalar scalar r ≡ true → kept mode scalar (l *ℤ r) ≡ Ok (wrapped scalar (pos (unsigned_abs l * unsigned_abs r)))
+unsigned_product mode scalar l r s h k =
+    unsigned_wraps mode scalar (l *ℤ r) s ∙ (ap (λ (z : ℤ). Ok (wrapped scalar z)) (sym (ap (λ (z : ℤ). z *ℤ r) (not_negative scalar l s h)) ∙ sym (ap (λ (z : ℤ). pos (unsigned_abs l) *ℤ z) (not_negative scalar r s k))))

@@ -6,12 +6,14 @@ use Rattle.std.proofs.lemmas.Int.{ints}
 use Rattle.std.proofs.lemmas.Nat.{pow_pos, or_lt, xor_lt}
 use Rattle.std.proofs.Math.Nat.{mod-le, mod-lt, div-le_self}
 use Rattle.gimple_ir.specs.declared.scalar.Scalar.{Scalar}
+use Rattle.gimple_ir.specs.declared.scalar.Mode.{Mode}
+use Rattle.gimple_ir.specs.declared.scalar.Mode.TheVariants.{Trap, Wrap}
 use Rattle.gimple_ir.specs.declared.scalar.Scalar.TheVariants.{I8, I16, I32, I64, U8, U16, U32, U64, Ptr}
 use Rattle.gimple_ir.specs.declared.scalar.Op.{Op}
 use Rattle.gimple_ir.specs.declared.scalar.Op.TheVariants.{Add, Sub, Mul, Div, Rem, And, Or, Xor, Shl, Shr}
 use Rattle.gimple_ir.specs.declared.value.TrapKind.{TrapKind}
 use Rattle.gimple_ir.specs.declared.value.TrapKind.TheVariants.{Overflow, Divide, Shift}
-use Rattle.gimple_core.specs.Operators.{bits_of, is_signed, modulus_of, half_of, in_scalar, low_bits, of_bits, wrapped, kept, unless_not, is_count, op_of}
+use Rattle.gimple_core.specs.Operators.{bits_of, is_signed, modulus_of, half_of, in_scalar, low_bits, of_bits, wrapped, within, kept, unless_not, is_count, op_of}
 
 -- one more than the greatest number of a scalar
 abbrev pub limit_of : Scalar → ℕ
@@ -88,13 +90,20 @@ abbrev ResultIn : Scalar → Result ℤ TrapKind → Type 0
 ResultIn scalar (Ok z) = in_scalar scalar z ≡ true
 ResultIn scalar (Err kind) = Unit {0}
 
-kept_by : (scalar : Scalar) (z : ℤ) (signed within : Bool) → in_scalar scalar z ≡ within → ResultIn scalar (if signed then (if within then Ok z else Err Overflow) else Ok (wrapped scalar z))
-kept_by scalar z true true e = e
-kept_by scalar z true false e = tt
-kept_by scalar z false within e = wrapped_in scalar z
+within_by : (scalar : Scalar) (z : ℤ) (fits : Bool) → in_scalar scalar z ≡ fits → ResultIn scalar (if fits then Ok z else Err Overflow)
+within_by scalar z true e = e
+within_by scalar z false e = tt
 
-kept_in : (scalar : Scalar) (z : ℤ) → ResultIn scalar (kept scalar z)
-kept_in scalar z = kept_by scalar z (is_signed scalar) (in_scalar scalar z) refl
+within_in : (scalar : Scalar) (z : ℤ) → ResultIn scalar (within scalar z)
+within_in scalar z = within_by scalar z (in_scalar scalar z) refl
+
+kept_by : (scalar : Scalar) (z : ℤ) (signed : Bool) → ResultIn scalar (if signed then within scalar z else Ok (wrapped scalar z))
+kept_by scalar z true = within_in scalar z
+kept_by scalar z false = wrapped_in scalar z
+
+kept_in : (mode : Mode) (scalar : Scalar) (z : ℤ) → ResultIn scalar (kept mode scalar z)
+kept_in Trap scalar z = kept_by scalar z (is_signed scalar)
+kept_in Wrap scalar z = wrapped_in scalar z
 
 unless_in : (scalar : Scalar) (b : Bool) (kind : TrapKind) (r : Result ℤ TrapKind) → ResultIn scalar r → ResultIn scalar (unless_not b kind r)
 unless_in scalar true kind r h = h
@@ -112,19 +121,19 @@ shr_in : (scalar : Scalar) (l : ℤ) (n : ℕ) → in_scalar scalar l ≡ true �
 shr_in scalar (pos a) n h = let top : a < limit_of scalar = in_pos scalar a h in let small : a / 2 ^ n ≤ a = div-le_self a (2 ^ n) in pos_in scalar (a / 2 ^ n) (omega (arith, top, small))
 shr_in scalar (negsuc a) n h = let k = in_neg scalar a h in let top : a < half_of scalar = k.1 in let small : a / 2 ^ n ≤ a = div-le_self a (2 ^ n) in neg_in scalar (a / 2 ^ n) k.0 (omega (arith, top, small))
 
-result_in : (op : Op) (scalar : Scalar) (l r : ℤ) → in_scalar scalar l ≡ true → ResultIn scalar (op_of op scalar l r)
+result_in : (mode : Mode) (op : Op) (scalar : Scalar) (l r : ℤ) → in_scalar scalar l ≡ true → ResultIn scalar (op_of mode op scalar l r)
 unfolding op_of
-result_in Add scalar l r h = kept_in scalar (l +ℤ r)
-result_in Sub scalar l r h = kept_in scalar (l -ℤ r)
-result_in Mul scalar l r h = kept_in scalar (l *ℤ r)
-result_in Div scalar l r h = unless_in scalar _ Divide (kept scalar (int_div l r)) (kept_in scalar (int_div l r))
-result_in Rem scalar l r h = unless_in scalar _ Divide _ (unless_in scalar (in_scalar scalar (int_div l r)) Overflow (Ok (int_rem l r)) (rem_in scalar l r h))
-result_in And scalar l r h = of_bits_in scalar _ (and_lt (bits_of scalar) _ _ (low_below scalar l) (low_below scalar r))
-result_in Or scalar l r h = of_bits_in scalar _ (or_lt (bits_of scalar) _ _ (low_below scalar l) (low_below scalar r))
-result_in Xor scalar l r h = of_bits_in scalar _ (xor_lt (bits_of scalar) _ _ (low_below scalar l) (low_below scalar r))
-result_in Shl scalar l r h = unless_in scalar (is_count scalar r) Shift (Ok (of_bits scalar (low_bits scalar l * 2 ^ unsigned_abs r % modulus_of scalar))) (of_bits_in scalar _ (mod-lt (low_bits scalar l * 2 ^ unsigned_abs r) (pow_pos (bits_of scalar))))
-result_in Shr scalar l r h = unless_in scalar (is_count scalar r) Shift (Ok (int_shr l (unsigned_abs r))) (shr_in scalar l (unsigned_abs r) h)
+result_in mode Add scalar l r h = kept_in mode scalar (l +ℤ r)
+result_in mode Sub scalar l r h = kept_in mode scalar (l -ℤ r)
+result_in mode Mul scalar l r h = kept_in mode scalar (l *ℤ r)
+result_in mode Div scalar l r h = unless_in scalar _ Divide (within scalar (int_div l r)) (within_in scalar (int_div l r))
+result_in mode Rem scalar l r h = unless_in scalar _ Divide _ (unless_in scalar (in_scalar scalar (int_div l r)) Overflow (Ok (int_rem l r)) (rem_in scalar l r h))
+result_in mode And scalar l r h = of_bits_in scalar _ (and_lt (bits_of scalar) _ _ (low_below scalar l) (low_below scalar r))
+result_in mode Or scalar l r h = of_bits_in scalar _ (or_lt (bits_of scalar) _ _ (low_below scalar l) (low_below scalar r))
+result_in mode Xor scalar l r h = of_bits_in scalar _ (xor_lt (bits_of scalar) _ _ (low_below scalar l) (low_below scalar r))
+result_in mode Shl scalar l r h = unless_in scalar (is_count scalar r) Shift (Ok (of_bits scalar (low_bits scalar l * 2 ^ unsigned_abs r % modulus_of scalar))) (of_bits_in scalar _ (mod-lt (low_bits scalar l * 2 ^ unsigned_abs r) (pow_pos (bits_of scalar))))
+result_in mode Shr scalar l r h = unless_in scalar (is_count scalar r) Shift (Ok (int_shr l (unsigned_abs r))) (shr_in scalar l (unsigned_abs r) h)
 
 -- an operator's result lies in its scalar
-pub op_in : (op : Op) (scalar : Scalar) (l r z : ℤ) → in_scalar scalar l ≡ true → op_of op scalar l r ≡ Ok z → in_scalar scalar z ≡ true
-op_in op scalar l r z h e = subst (ResultIn scalar) e (result_in op scalar l r h)
+pub op_in : (mode : Mode) (op : Op) (scalar : Scalar) (l r z : ℤ) → in_scalar scalar l ≡ true → op_of mode op scalar l r ≡ Ok z → in_scalar scalar z ≡ true
+op_in mode op scalar l r z h e = subst (ResultIn scalar) e (result_in mode op scalar l r h)

@@ -1,11 +1,11 @@
 -- Two programs that run alike, by a relation between their states.
 use Rattle.std.proofs.Common.{◌≡◌, ℕ, zero, suc, List, [], ◌∷◌, ◌++◌, refl, sym, ap, subst, Option, Some, None, Result, Ok, Err}
-use Rattle.gimple_ir.specs.declared.program.Program.{Program}
+use Rattle.gimple_core.specs.Sealed.{Sealed}
 use Rattle.gimple_ir.specs.declared.statement.Stmt.{Stmt}
 use Rattle.gimple_ir.specs.declared.value.Outcome.{Outcome}
 use Rattle.gimple_ir.specs.declared.value.Outcome.TheVariants.{Going}
 use Rattle.gimple_ir.specs.declared.value.TrapKind.{TrapKind}
-use Rattle.gimple_core.specs.State.{World, State, scope_of}
+use Rattle.gimple_core.specs.State.{World, State, scope_of, setting_of}
 use Rattle.gimple_core.specs.Run.{Calling, call_of, performed, act, acted, Reached, Moves, Stops, Traps, Did, Goes, Reaches, perform, finish, resumed, then_walk, walk, paused, then_run, runs}
 
 -- the same way to end, in related states
@@ -21,7 +21,7 @@ Matches R (Traps o k) (Stops o' z) = ⊥
 Matches R (Traps o k) (Traps o' j) = (o ≡ o') × (k ≡ j)
 
 -- what lies between two transfers keeps the relation
-pub record Simulates (p q : Program) (R : State → State → Type 0) : Type 0 where
+pub record Simulates (p q : Sealed) (R : State → State → Type 0) : Type 0 where
   pub output : (s t : State) → R s t → s.world.output ≡ t.world.output
   pub segment : (s t : State) → R s t → Matches R (walk p s.top.rest s) (walk q t.top.rest t)
 
@@ -48,7 +48,7 @@ run_same R f g o (Traps u k) (Stops v z) r = absurd r
 run_same R f g o (Traps u k) (Traps v j) r = let a = r.0 in let b = r.1 in cc
 
 -- runs from related states come to the same
-pub runs_same : (p q : Program) (R : State → State → Type 0) → Simulates p q R → (n : ℕ) (s t : State) → R s t → runs p n s ≡ runs q n t
+pub runs_same : (p q : Sealed) (R : State → State → Type 0) → Simulates p q R → (n : ℕ) (s t : State) → R s t → runs p n s ≡ runs q n t
 unfolding runs
 runs_same p q R sim zero s t r = paused_same R sim.output (walk p s.top.rest s) (walk q t.top.rest t) (sim.segment s t r)
 runs_same p q R sim (suc n) s t r =
@@ -61,7 +61,7 @@ then_do (Goes t) on = on t
 then_do (Reaches r) on = Reaches r
 
 -- some statements one after another, in front of others
-abbrev pub performs : Program → List Stmt → List Stmt → State → Did
+abbrev pub performs : Sealed → List Stmt → List Stmt → State → Did
 performs p [] rest s = Goes s
 performs p (x ∷ xs) rest s = then_do (perform p x (resumed s (xs ++ rest))) (performs p xs rest)
 
@@ -74,25 +74,25 @@ Does R (Reaches a) (Reaches b) = Matches R a b
 
 -- What stands for one statement: some of the second program's, after which the states are related again. `Does` asks for
 -- the relation alone, since no statement changes what is left of the body.
-pub record Stands (p q : Program) (R : State → State → Type 0) (s : State) (x : Stmt) (xs : List Stmt) (t : State) : Type 0 where
+pub record Stands (p q : Sealed) (R : State → State → Type 0) (s : State) (x : Stmt) (xs : List Stmt) (t : State) : Type 0 where
   pub now : List Stmt
   pub later : List Stmt
   pub splits : t.top.rest ≡ now ++ later
   pub does : Does R (perform p x (resumed s xs)) (performs q now later t)
 
 -- each statement has some that stand for it, and the ends match
-pub record Follows (p q : Program) (R : State → State → Type 0) : Type 0 where
+pub record Follows (p q : Sealed) (R : State → State → Type 0) : Type 0 where
   pub output : (s t : State) → R s t → s.world.output ≡ t.world.output
   pub stmt : (s t : State) (x : Stmt) (xs : List Stmt) → R s t → s.top.rest ≡ x ∷ xs → Stands p q R s x xs t
   pub last : (s t : State) → R s t → s.top.rest ≡ [] → t.top.rest ≡ []
-  pub end : (s t : State) → R s t → s.top.rest ≡ [] → Matches R (finish p.globals s.top.end s) (finish q.globals t.top.end t)
+  pub end : (s t : State) → R s t → s.top.rest ≡ [] → Matches R (finish p.program.globals s.top.end s) (finish q.program.globals t.top.end t)
 
-walk_performs_of : (p : Program) (zs : List Stmt) (ys : List Stmt) (d : Did) → ((s : State) → walk p (ys ++ zs) s ≡ then_walk (performs p ys zs s) (walk p zs)) → then_walk d (walk p (ys ++ zs)) ≡ then_walk (then_do d (performs p ys zs)) (walk p zs)
+walk_performs_of : (p : Sealed) (zs : List Stmt) (ys : List Stmt) (d : Did) → ((s : State) → walk p (ys ++ zs) s ≡ then_walk (performs p ys zs s) (walk p zs)) → then_walk d (walk p (ys ++ zs)) ≡ then_walk (then_do d (performs p ys zs)) (walk p zs)
 walk_performs_of p zs ys (Goes t) more = more t
 walk_performs_of p zs ys (Reaches r) more = refl
 
 -- a walk is some statements and then a walk
-pub walk_performs : (p : Program) (ys zs : List Stmt) (s : State) → walk p (ys ++ zs) s ≡ then_walk (performs p ys zs s) (walk p zs)
+pub walk_performs : (p : Sealed) (ys zs : List Stmt) (s : State) → walk p (ys ++ zs) s ≡ then_walk (performs p ys zs s) (walk p zs)
 unfolding walk
 walk_performs p [] zs s = refl
 walk_performs p (y ∷ ys) zs s =
@@ -108,45 +108,45 @@ rest_of_acted : (s : State) (r : Result World TrapKind) → KeepsRest s.top.rest
 rest_of_acted s (Ok w) = refl
 rest_of_acted s (Err k) = tt
 
-rest_of_performed : (p : Program) (c : Option Calling) (x : Stmt) (s : State) → KeepsRest s.top.rest (performed p c x s)
-rest_of_performed p None x s = rest_of_acted s (act p.globals (scope_of s.top) x s.world)
+rest_of_performed : (p : Sealed) (c : Option Calling) (x : Stmt) (s : State) → KeepsRest s.top.rest (performed p c x s)
+rest_of_performed p None x s = rest_of_acted s (act (setting_of p) (scope_of s.top) x s.world)
 rest_of_performed p (Some c) x s = tt
 
-pub perform_rest : (p : Program) (x : Stmt) (s : State) → KeepsRest s.top.rest (perform p x s)
+pub perform_rest : (p : Sealed) (x : Stmt) (s : State) → KeepsRest s.top.rest (perform p x s)
 perform_rest p x s = rest_of_performed p (call_of x) x s
 
-performs_rest_of : (p : Program) (ys zs : List Stmt) (d : Did) → KeepsRest (ys ++ zs) d → ((s : State) → s.top.rest ≡ ys ++ zs → KeepsRest zs (performs p ys zs s)) → KeepsRest zs (then_do d (performs p ys zs))
+performs_rest_of : (p : Sealed) (ys zs : List Stmt) (d : Did) → KeepsRest (ys ++ zs) d → ((s : State) → s.top.rest ≡ ys ++ zs → KeepsRest zs (performs p ys zs s)) → KeepsRest zs (then_do d (performs p ys zs))
 performs_rest_of p ys zs (Goes t) e more = more t e
 performs_rest_of p ys zs (Reaches r) e more = tt
 
-pub performs_rest : (p : Program) (ys zs : List Stmt) (s : State) → s.top.rest ≡ ys ++ zs → KeepsRest zs (performs p ys zs s)
+pub performs_rest : (p : Sealed) (ys zs : List Stmt) (s : State) → s.top.rest ≡ ys ++ zs → KeepsRest zs (performs p ys zs s)
 performs_rest p [] zs s e = e
 performs_rest p (y ∷ ys) zs s e =
     performs_rest_of p ys zs (perform p y (resumed s (ys ++ zs))) (perform_rest p y (resumed s (ys ++ zs))) (performs_rest p ys zs)
 
 -- ---- from statements to walks
 
-walk_follows_of : (p q : Program) (R : State → State → Type 0) (xs zs : List Stmt) (c d : Did) → KeepsRest xs c → KeepsRest zs d → Does R c d → ((s t : State) → R s t → s.top.rest ≡ xs → Matches R (walk p xs s) (walk q t.top.rest t)) → Matches R (then_walk c (walk p xs)) (then_walk d (walk q zs))
+walk_follows_of : (p q : Sealed) (R : State → State → Type 0) (xs zs : List Stmt) (c d : Did) → KeepsRest xs c → KeepsRest zs d → Does R c d → ((s t : State) → R s t → s.top.rest ≡ xs → Matches R (walk p xs s) (walk q t.top.rest t)) → Matches R (then_walk c (walk p xs)) (then_walk d (walk q zs))
 walk_follows_of p q R xs zs (Goes s) (Goes t) k l r more = subst (λ ws. Matches R (walk p xs s) (walk q ws t)) l (more s t r k)
 walk_follows_of p q R xs zs (Goes s) (Reaches b) k l r more = absurd r
 walk_follows_of p q R xs zs (Reaches a) (Goes t) k l r more = absurd r
 walk_follows_of p q R xs zs (Reaches a) (Reaches b) k l r more = r
 
-walk_follows_stmt : (p q : Program) (R : State → State → Type 0) (x : Stmt) (xs : List Stmt) (s t : State) → Stands p q R s x xs t → ((s t : State) → R s t → s.top.rest ≡ xs → Matches R (walk p xs s) (walk q t.top.rest t)) → Matches R (then_walk (perform p x (resumed s xs)) (walk p xs)) (walk q t.top.rest t)
+walk_follows_stmt : (p q : Sealed) (R : State → State → Type 0) (x : Stmt) (xs : List Stmt) (s t : State) → Stands p q R s x xs t → ((s t : State) → R s t → s.top.rest ≡ xs → Matches R (walk p xs s) (walk q t.top.rest t)) → Matches R (then_walk (perform p x (resumed s xs)) (walk p xs)) (walk q t.top.rest t)
 walk_follows_stmt p q R x xs s t a more =
     subst (λ ws. Matches R (then_walk (perform p x (resumed s xs)) (walk p xs)) (walk q ws t)) (sym a.splits)
     (rw walk_performs
     (walk_follows_of p q R xs a.later (perform p x (resumed s xs)) (performs q a.now a.later t)
     (perform_rest p x (resumed s xs)) (performs_rest q a.now a.later t a.splits) a.does more))
 
-pub walk_follows : (p q : Program) (R : State → State → Type 0) → Follows p q R → (xs : List Stmt) (s t : State) → R s t → s.top.rest ≡ xs → Matches R (walk p xs s) (walk q t.top.rest t)
+pub walk_follows : (p q : Sealed) (R : State → State → Type 0) → Follows p q R → (xs : List Stmt) (s t : State) → R s t → s.top.rest ≡ xs → Matches R (walk p xs s) (walk q t.top.rest t)
 unfolding walk
 walk_follows p q R f [] s t r e =
     subst (λ ws. Matches R (walk p [] s) (walk q ws t)) (sym (f.last s t r e)) (f.end s t r e)
 walk_follows p q R f (x ∷ xs) s t r e = walk_follows_stmt p q R x xs s t (f.stmt s t x xs r e) (walk_follows p q R f xs)
 
 -- a relation that statements and ends keep is one that a run keeps
-pub simulates : (p q : Program) (R : State → State → Type 0) → Follows p q R → Simulates p q R
+pub simulates : (p q : Sealed) (R : State → State → Type 0) → Follows p q R → Simulates p q R
 simulates p q R f = record { output = f.output; segment = λ s t r. walk_follows p q R f s.top.rest s t r refl }
 
 -- ---- one statement for one
@@ -156,7 +156,7 @@ then_do_goes (Goes t) = refl
 then_do_goes (Reaches r) = refl
 
 -- one statement stands for one
-pub one : (p q : Program) (R : State → State → Type 0) (s : State) (x : Stmt) (xs : List Stmt) (t : State) (y : Stmt) (ys : List Stmt) → t.top.rest ≡ y ∷ ys → Does R (perform p x (resumed s xs)) (perform q y (resumed t ys)) → Stands p q R s x xs t
+pub one : (p q : Sealed) (R : State → State → Type 0) (s : State) (x : Stmt) (xs : List Stmt) (t : State) (y : Stmt) (ys : List Stmt) → t.top.rest ≡ y ∷ ys → Does R (perform p x (resumed s xs)) (perform q y (resumed t ys)) → Stands p q R s x xs t
 one p q R s x xs t y ys e d = record {
   now = y ∷ [];
   later = ys;

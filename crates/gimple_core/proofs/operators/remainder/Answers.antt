@@ -7,7 +7,7 @@ use Rattle.gimple_core.specs.Operators.{op_of, in_scalar}
 
 pub returns-then-fits : goal.returns-then-fits
 unfolding op_of
-returns-then-fits c =
+returns-then-fits c mode =
     let left : FitsSigned w128 c.args.left = c.ranges.left in
     let right : FitsSigned w128 c.args.right = c.ranges.right in
     let nonzero : (unsigned_abs c.args.right == 0) ≡ false = abs_nonzero c.args.right c.if-right-eq0.false in
@@ -18,7 +18,7 @@ returns-then-fits c =
 
 pub returns-else-fits : goal.returns-else-fits
 unfolding op_of
-returns-else-fits c =
+returns-else-fits c mode =
     let left : FitsSigned w128 c.args.left = c.ranges.left in
     let right : FitsSigned w128 c.args.right = c.ranges.right in
     let nonzero : (unsigned_abs c.args.right == 0) ≡ false = abs_nonzero c.args.right c.if-right-eq0.false in
