@@ -9,7 +9,7 @@ use Rattle.words.specs.declared.item.Pass.TheVariants.{Cp, CpClone, BitCp, Vrp, 
 use Rattle.words.specs.declared.item.Param.TheVariants.{ValueListSize, EvalThreshold, UnitGrowth, LargeUnitInsns, MaxAggItems, MaxReplacements, PtrGrowthFactor, SraUnitGrowth, MaxBases, MaxRefs, MaxAccesses}
 use Rattle.words.specs.declared.item.Dump.TheVariants.{Cgraph, Icf as DumpIcf, Cp as DumpCp, Sra as DumpSra, Modref as DumpModref}
 use Rattle.words.specs.declared.item.Item.{Item}
-use Rattle.words.specs.declared.item.Item.TheVariants.{Input, Level, Turn, Set, Dump as DumpItem, OutputOption, Output, ParamOption, Summary, Workers}
+use Rattle.words.specs.declared.item.Item.TheVariants.{Input, Level, Turn, Set, Dump as DumpItem, OutputOption, Output, ParamOption, Summary, Workers, Mode as ModeItem}
 use Rattle.words.specs.declared.gathered.Gathered.{Gathered}
 use Rattle.words.specs.declared.options.UsageFault.{UsageFault}
 use Rattle.words.specs.Gathered.{gather, gathered_of, repeats_in, map_gathered}
@@ -57,6 +57,7 @@ gathered_of-push is (Output name) = simp last_of-push
 gathered_of-push is ParamOption = simp last_of-push
 gathered_of-push is (Summary name) = simp last_of-push
 gathered_of-push is (Workers n) = simp last_of-push
+gathered_of-push is (ModeItem mode) = simp last_of-push
 
 pub repeats-gathered_of : (is : List Item) (i : Item) → repeats_in (gathered_of is) i ≡ repeats is i
 repeats-gathered_of is (Input name) = refl

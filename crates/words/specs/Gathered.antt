@@ -2,6 +2,7 @@
 use Rattle.std.specs.Prelude.{ℕ, List, [], Bool, true, false, is_some, unwrap_or, nat_le, Some, Result, Ok, Err}
 use Rattle.gimple_ir.specs.declared.options.Passes.{Passes}
 use Rattle.gimple_ir.specs.declared.options.Params.{Params}
+use Rattle.gimple_ir.specs.declared.scalar.Mode.TheVariants.{Trap}
 use Rattle.words.specs.declared.options.Name.{Name}
 use Rattle.words.specs.declared.options.Name.TheVariants.{Standard}
 use Rattle.words.specs.declared.options.SourceName.{SourceName}
@@ -15,12 +16,12 @@ use Rattle.words.specs.declared.item.Param.TheVariants.{ValueListSize, EvalThres
 use Rattle.words.specs.declared.item.Dump.{Dump}
 use Rattle.words.specs.declared.item.Dump.TheVariants.{Cgraph, Icf as DumpIcf, Cp as DumpCp, Sra as DumpSra, Modref as DumpModref}
 use Rattle.words.specs.declared.item.Item.{Item}
-use Rattle.words.specs.declared.item.Item.TheVariants.{Input, Level, Turn, Set, Dump as DumpItem, OutputOption, Output, ParamOption, Summary, Workers}
+use Rattle.words.specs.declared.item.Item.TheVariants.{Input, Level, Turn, Set, Dump as DumpItem, OutputOption, Output, ParamOption, Summary, Workers, Mode as ModeItem}
 use Rattle.words.specs.declared.item.Pending.TheVariants.{Nothing}
 use Rattle.words.specs.declared.gathered.Turns.{Turns}
 use Rattle.words.specs.declared.gathered.Dumps.{Dumps}
 use Rattle.words.specs.declared.gathered.Gathered.{Gathered}
-use Rattle.words.specs.Sequence.{items_from, last_of, source_in, asks_in, output_in, summary_in, level_in, workers_in, turn_in, set_in, dump_in}
+use Rattle.words.specs.Sequence.{items_from, last_of, source_in, asks_in, output_in, summary_in, level_in, workers_in, mode_in, turn_in, set_in, dump_in}
 
 -- ---- all words at once
 
@@ -83,6 +84,7 @@ gathered_of is = record {
   summary = last_of summary_in is;
   level = unwrap_or (last_of level_in is) 0;
   workers = unwrap_or (last_of workers_in is) 1;
+  mode = unwrap_or (last_of mode_in is) Trap;
   turns = turns_of is;
   params = params_of is;
   dumps = dumps_of is;
@@ -101,6 +103,7 @@ options_from g source = record {
   passes = passes_of g.turns g.level;
   params = g.params;
   workers = g.workers;
+  mode = g.mode;
 }
 
 abbrev pub map_gathered : Result (List Item) UsageFault → Result Gathered UsageFault
@@ -153,6 +156,7 @@ gather g (Output name) = record g { output = name }
 gather g ParamOption = g
 gather g (Summary name) = record g { summary = Some name }
 gather g (Workers n) = record g { workers = n }
+gather g (ModeItem mode) = record g { mode = mode }
 
 abbrev pub repeats_in : Gathered → Item → Bool
 repeats_in g (Input name) = is_some g.source

@@ -1,6 +1,8 @@
 -- What one word says.
 use Rattle.std.specs.Prelude.{ℕ, ◌+◌, List, length, drop, Bool, true, false, ◌||◌, not, ◌==◌, codes, slice_index, if◌then◌else◌, Option, None, Some, Result, Ok, Err}
 use Rattle.std.specs.List.{list_any}
+use Rattle.gimple_ir.specs.declared.scalar.Mode.{Mode}
+use Rattle.gimple_ir.specs.declared.scalar.Mode.TheVariants.{Trap, Wrap}
 use Rattle.words.specs.declared.options.Name.{Name}
 use Rattle.words.specs.declared.options.Name.TheVariants.{Word}
 use Rattle.words.specs.declared.item.Pass.{Pass}
@@ -10,7 +12,7 @@ use Rattle.words.specs.declared.item.Param.TheVariants.{ValueListSize, EvalThres
 use Rattle.words.specs.declared.item.Dump.{Dump}
 use Rattle.words.specs.declared.item.Dump.TheVariants.{Cgraph, Icf as DumpIcf, Cp as DumpCp, Sra as DumpSra, Modref as DumpModref}
 use Rattle.words.specs.declared.item.Item.{Item}
-use Rattle.words.specs.declared.item.Item.TheVariants.{Input, Level, Turn, Set, Dump as DumpItem, OutputOption, Output, ParamOption, Summary, Workers}
+use Rattle.words.specs.declared.item.Item.TheVariants.{Input, Level, Turn, Set, Dump as DumpItem, OutputOption, Output, ParamOption, Summary, Workers, Mode as ModeItem}
 use Rattle.words.specs.declared.item.Pending.{Pending}
 use Rattle.words.specs.declared.item.Pending.TheVariants.{Nothing, Output as OutputPending, Param as ParamPending}
 use Rattle.words.specs.Numbers.{limited}
@@ -81,6 +83,12 @@ level_at text =
     else (if is_word text (codes "-O3") then Some 3
     else None)))
 
+unfoldable pub mode_at : List ℕ → Option Mode
+mode_at text =
+    if is_word text (codes "-fwrapv") then Some Wrap
+    else (if is_word text (codes "-ftrapv") then Some Trap
+    else None)
+
 -- words, or the codes of their faults
 
 abbrev pub or_fault : {A : Type 0} → Option A → (A → Item) → ℕ → Result Item ℕ
@@ -133,9 +141,13 @@ long_of word text =
     else (if begins text (codes "-fipa-") then turn_of (drop 6 text) true
     else valued_of word text))
 
-abbrev pub level_or_long : ℕ → List ℕ → Option ℕ → Result Item ℕ
-level_or_long word text (Some level) = Ok (Level level)
-level_or_long word text None = long_of word text
+abbrev pub mode_or_long : ℕ → List ℕ → Option Mode → Result Item ℕ
+mode_or_long word text (Some mode) = Ok (ModeItem mode)
+mode_or_long word text None = long_of word text
+
+abbrev pub level_or_later : ℕ → List ℕ → Option ℕ → Result Item ℕ
+level_or_later word text (Some level) = Ok (Level level)
+level_or_later word text None = mode_or_long word text (mode_at text)
 
 -- A word that is no value of the word before it. The word "-", and one that does not begin so, is the input.
 unfoldable pub single_of : ℕ → List ℕ → Bool → Result Item ℕ
@@ -144,7 +156,7 @@ single_of word text is_last =
     else (if not (slice_index text 0 == 45) || (length text == 1) then Ok (Input (Word word 0))
     else (if is_word text (codes "-o") then (if is_last then Err 7 else Ok OutputOption)
     else (if is_word text (codes "--param") then (if is_last then Err 7 else Ok ParamOption)
-    else level_or_long word text (level_at text))))
+    else level_or_later word text (level_at text))))
 
 -- what the word of this number says, or the code of its fault
 abbrev pub item_of : ℕ → Pending → List ℕ → Bool → Result Item ℕ

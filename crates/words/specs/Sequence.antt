@@ -1,6 +1,7 @@
 -- What the words say one after another, up to the first faulty one.
 use Rattle.std.specs.Prelude.{ℕ, ◌+◌, List, [], ◌∷◌, ◌++◌, Bool, true, false, ◌==◌, is_some, if◌then◌else◌, Option, None, Some, Result, Ok, Err}
 use Rattle.std.specs.Option.{option_or}
+use Rattle.gimple_ir.specs.declared.scalar.Mode.{Mode}
 use Rattle.words.specs.declared.options.Name.{Name}
 use Rattle.words.specs.declared.options.SourceName.{SourceName}
 use Rattle.words.specs.declared.options.SourceName.TheVariants.{File}
@@ -12,7 +13,7 @@ use Rattle.words.specs.declared.item.Param.TheVariants.{ValueListSize, EvalThres
 use Rattle.words.specs.declared.item.Dump.{Dump}
 use Rattle.words.specs.declared.item.Dump.TheVariants.{Cgraph, Icf as DumpIcf, Cp as DumpCp, Sra as DumpSra, Modref as DumpModref}
 use Rattle.words.specs.declared.item.Item.{Item}
-use Rattle.words.specs.declared.item.Item.TheVariants.{Input, Level, Turn, Set, Dump as DumpItem, OutputOption, Output, ParamOption, Summary, Workers}
+use Rattle.words.specs.declared.item.Item.TheVariants.{Input, Level, Turn, Set, Dump as DumpItem, OutputOption, Output, ParamOption, Summary, Workers, Mode as ModeItem}
 use Rattle.words.specs.declared.item.Pending.{Pending}
 use Rattle.words.specs.declared.item.Pending.TheVariants.{Nothing, Output as OutputPending, Param as ParamPending}
 use Rattle.words.specs.Items.{item_of}
@@ -47,6 +48,10 @@ workers_in i = None
 abbrev pub level_in : Item → Option ℕ
 level_in (Level n) = Some n
 level_in i = None
+
+abbrev pub mode_in : Item → Option Mode
+mode_in (ModeItem mode) = Some mode
+mode_in i = None
 
 -- each pass, parameter and dump has a number of its own
 

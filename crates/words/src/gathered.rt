@@ -6,7 +6,7 @@ ghost use Rattle.words.specs.Twins.{stored_names};
 
 use crate::item::{Dump, Item, Param, Pass};
 use crate::options::{Name, Options, SourceName};
-use gimple_ir::{Params, Passes};
+use gimple_ir::{Mode, Params, Passes};
 
 /// The passes that words turned on or off.
 #[derive(Clone, Copy, Debug, PartialEq, Eq)]
@@ -39,6 +39,7 @@ pub struct Gathered {
     pub summary: Option<Name>,
     pub level: u8,
     pub workers: u32,
+    pub mode: Mode,
     pub turns: Turns,
     pub params: Params,
     pub dumps: Dumps,
@@ -124,6 +125,7 @@ impl Gathered {
             summary: None,
             level: 0,
             workers: 1,
+            mode: Mode::Trap,
             turns: Turns {
                 cp: None,
                 cp_clone: None,
@@ -171,6 +173,7 @@ impl Gathered {
             Item::ParamOption => {}
             Item::Summary(name) => new.summary = Some(name),
             Item::Workers(workers) => new.workers = workers,
+            Item::Mode(mode) => new.mode = mode,
         }
         new
     }
@@ -205,6 +208,7 @@ impl Gathered {
             passes: self.passes(),
             params: self.params,
             workers: self.workers,
+            mode: self.mode,
         }
     }
 }

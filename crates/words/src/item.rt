@@ -5,6 +5,7 @@ ghost use Rattle.words.specs.Items.{least_of, greatest_of};
 ghost use Rattle.words.specs.Sequence.{pending_of};
 
 use crate::options::Name;
+use gimple_ir::Mode;
 
 /// The passes that words turn on and off.
 #[derive(Clone, Copy, Debug, PartialEq, Eq)]
@@ -59,6 +60,7 @@ pub enum Item {
     ParamOption,
     Summary(Name),
     Workers(u32),
+    Mode(Mode),
 }
 
 /// The option whose value the next word is.

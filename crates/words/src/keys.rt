@@ -1,10 +1,11 @@
-//! The names of passes, parameters, dumps and levels.
+//! The names of passes, parameters, dumps, levels and modes.
 
 ghost use Rattle.std.specs.Prelude.{◌≡◌, ◌≤◌, length, IfSome};
-ghost use Rattle.words.specs.Items.{pass_of, param_at, late_param_at, dump_at, level_at};
+ghost use Rattle.words.specs.Items.{pass_of, param_at, late_param_at, dump_at, level_at, mode_at};
 
 use crate::item::{Dump, Param, Pass};
 use crate::prefix::{begins, is_word};
+use gimple_ir::Mode;
 
 /// The pass of this name.
 #[tactic(auto, unfolding(crate::specs::Items::pass_of))]
@@ -108,6 +109,20 @@ pub fn level_named(text: &[u8]) -> Option<u8>
         Some(2)
     } else if is_word(text, "-O3") {
         Some(3)
+    } else {
+        None
+    }
+}
+
+/// The mode of arithmetic that this word chooses.
+#[tactic(auto, unfolding(crate::specs::Items::mode_at))]
+pub fn mode_named(text: &[u8]) -> Option<Mode>
+    ensures { result ≡ mode_at text.now }
+{
+    if is_word(text, "-fwrapv") {
+        Some(Mode::Wrap)
+    } else if is_word(text, "-ftrapv") {
+        Some(Mode::Trap)
     } else {
         None
     }

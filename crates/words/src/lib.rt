@@ -12,7 +12,7 @@ mod read_item;
 mod run_options;
 mod run_words;
 
-pub use gimple_ir::{OutOfMemory, Params, Passes, Text};
+pub use gimple_ir::{Mode, OutOfMemory, Params, Passes, Text};
 pub use options::{Name, Options, SourceName, UsageFault};
 pub use read::{name_bytes, read_words, usage_text};
 pub use run_options::RunOptions;

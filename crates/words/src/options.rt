@@ -1,6 +1,6 @@
 //! What a list of words asks for.
 
-use gimple_ir::{Params, Passes};
+use gimple_ir::{Mode, Params, Passes};
 use thiserror::Error;
 
 /// A name of a source or an output. Words count from 1, places in a word from 0.
@@ -18,7 +18,7 @@ pub enum SourceName {
     File(Name),
 }
 
-/// What is read, what is stored where, and which passes run.
+/// What is read, what is stored where, which passes run, and what arithmetic does.
 #[derive(Clone, Copy, Debug, PartialEq, Eq)]
 pub struct Options {
     pub source: SourceName,
@@ -32,6 +32,7 @@ pub struct Options {
     pub passes: Passes,
     pub params: Params,
     pub workers: u32,
+    pub mode: Mode,
 }
 
 /// The first fault of a list of words: the number of the faulty word, from 1, and the fault's code.

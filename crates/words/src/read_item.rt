@@ -6,7 +6,7 @@ ghost use Rattle.words.specs.Items.{param_of, file_of, turn_of, dump_of, summary
 ghost use Rattle.words.specs.Limits.{KeepsLimits};
 
 use crate::item::{Item, Pending};
-use crate::keys::{dump_named, level_named, param_named, pass_named};
+use crate::keys::{dump_named, level_named, mode_named, param_named, pass_named};
 use crate::numbers::number;
 use crate::options::Name;
 use crate::prefix::{after, begins, is_word};
@@ -153,8 +153,11 @@ fn single_item(word: usize, text: &[u8], is_last: bool) -> Result<Item, u8>
             Ok(Item::ParamOption)
         };
     }
-    match level_named(text) {
-        Some(level) => Ok(Item::Level(level)),
+    if let Some(level) = level_named(text) {
+        return Ok(Item::Level(level));
+    }
+    match mode_named(text) {
+        Some(mode) => Ok(Item::Mode(mode)),
         None => long_item(word, text),
     }
 }

@@ -34,6 +34,9 @@ fn faults_are_found(rt: HostRuntime) -> Result<(), Fail> {
         ("a.g ", 2, 3),
         ("--turns=x -y", 1, 3),
         ("-y --turns=x", 1, 2),
+        ("a.g -fwrapv", 2, 3),
+        ("-fwrapv", 2, 1),
+        ("-fwrap a.g", 1, 2),
     ];
     for (line, word, code) in faulty {
         let answer = read_run_words(&texts(alloc, line)?);
@@ -65,5 +68,21 @@ fn numbers_are_read(rt: HostRuntime) -> Result<(), Fail> {
     };
     assert_eq!(rt; options.turns, 1_000_000);
     assert!(rt; input_numbers(alloc, &words, options.first)?.is_empty());
+    Ok(())
+}
+
+#[test]
+fn modes_are_read(rt: HostRuntime) -> Result<(), Fail> {
+    for (line, mode, turns) in [
+        ("a.g", Mode::Trap, 1_000_000),
+        ("-fwrapv --turns=5 a.g", Mode::Wrap, 5),
+        ("--turns=5 -fwrapv -ftrapv a.g", Mode::Trap, 5),
+        ("-ftrapv -fwrapv a.g", Mode::Wrap, 1_000_000),
+    ] {
+        let Ok(options) = read_run_words(&texts(rt.alloc(), line)?) else {
+            panic!(rt; "lawful words");
+        };
+        assert!(rt; options.mode == mode && options.turns == turns, "{line}");
+    }
     Ok(())
 }

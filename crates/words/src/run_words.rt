@@ -1,13 +1,14 @@
 //! From words to what is to be run.
 
 ghost use Rattle.std.specs.Prelude.{◌≡◌, ◌≤◌, ◌<◌, ◌^◌, ◌+◌, ◌-◌, length, drop, map, IfOk, pos, neg_ℤ};
-ghost use Rattle.words.specs.RunWords.{is_option, turns_in, integer_of, number_fault, first_from, input_from, run_words_of, number_or_zero, inputs_of};
+ghost use Rattle.words.specs.RunWords.{is_option, option_of, integer_of, number_fault, first_from, input_from, run_words_of, number_or_zero, inputs_of};
 
+use crate::keys::mode_named;
 use crate::numbers::number;
 use crate::options::{Name, UsageFault};
 use crate::prefix::{after, begins};
-use crate::run_options::RunOptions;
-use gimple_ir::{OutOfMemory, Text};
+use crate::run_options::{RunItem, RunOptions, Settings};
+use gimple_ir::{Mode, OutOfMemory, Text};
 use std::alloc::Global;
 
 /// The most transfers that an option may name.
@@ -16,19 +17,22 @@ const GREATEST_TURNS: u64 = 1_000_000_000;
 /// The transfers where no option names them.
 const TURNS: u64 = 1_000_000;
 
-/// What the words of `gimple-run` ask for, or the fault of the first faulty word: options `--turns=N`, then the
-/// input's name, then input numbers. It takes no memory.
+/// What the words of `gimple-run` ask for, or the fault of the first faulty word: options `--turns=N`, `-fwrapv` and
+/// `-ftrapv`, then the input's name, then input numbers. It takes no memory.
 #[tactic(auto, using(crate::proofs::RunLaws::after_option, crate::proofs::RunLaws::at_fault, crate::proofs::RunLaws::at_input, crate::proofs::RunLaws::no_input), unfolding(crate::specs::RunWords::run_words_of))]
 pub fn read_run_words(words: &[Text]) -> Result<RunOptions, UsageFault>
     ensures { result ≡ run_words_of words.now }
 {
-    let mut turns = TURNS;
+    let mut settings = Settings {
+        turns: TURNS,
+        mode: Mode::Trap,
+    };
     for (place, word) in words.iter().enumerate() {
         if !is_option(word.as_slice()) {
-            return from_input(turns, place, word.as_slice(), &words[place + 1..]);
+            return from_input(settings, place, word.as_slice(), &words[place + 1..]);
         }
-        match turns_in(word.as_slice()) {
-            Ok(number) => turns = number,
+        match option(word.as_slice()) {
+            Ok(item) => settings = settings.with(item),
             Err(code) => {
                 return Err(UsageFault {
                     word: place + 1,
@@ -73,13 +77,13 @@ fn numbers_of(alloc: Global, words: &[Text]) -> Result<Vec<i64>, OutOfMemory>
 /// What the words ask for, where no fault was found before the input, which comes after so many words.
 #[tactic(auto, unfolding(crate::specs::RunWords::input_from, crate::specs::RunWords::first_from))]
 fn from_input(
-    turns: u64,
+    settings: Settings,
     place: usize,
     input: &[u8],
     numbers: &[Text],
 ) -> Result<RunOptions, UsageFault>
     requires { place + length numbers.now + 2 < 2 ^ 64 - 1 }
-    ensures { result ≡ input_from turns place input.now numbers.now }
+    ensures { result ≡ input_from settings place input.now numbers.now }
 {
     if input.is_empty() {
         return Err(UsageFault {
@@ -90,7 +94,8 @@ fn from_input(
     match number_fault(place + 2, numbers) {
         Some(fault) => Err(fault),
         None => Ok(RunOptions {
-            turns,
+            turns: settings.turns,
+            mode: settings.mode,
             source: Name::Word {
                 word: place + 1,
                 from: 0,
@@ -128,16 +133,19 @@ fn is_option(word: &[u8]) -> bool
     }
 }
 
-/// The transfers that an option names, or the code of its fault.
-#[tactic(auto, unfolding(crate::specs::RunWords::turns_in))]
-fn turns_in(word: &[u8]) -> Result<u64, u8>
-    ensures { result ≡ turns_in word.now }
+/// What an option says, or the code of its fault.
+#[tactic(auto, unfolding(crate::specs::RunWords::option_of))]
+fn option(word: &[u8]) -> Result<RunItem, u8>
+    ensures { result ≡ option_of word.now }
 {
+    if let Some(mode) = mode_named(word) {
+        return Ok(RunItem::Mode(mode));
+    }
     if !begins(word, "--turns=") {
         return Err(2);
     }
     match number(after(word, 8), 0, GREATEST_TURNS) {
-        Some(turns) => Ok(turns),
+        Some(turns) => Ok(RunItem::Turns(turns)),
         None => Err(3),
     }
 }

@@ -48,6 +48,7 @@ fn first_faults(rt: HostRuntime) -> Result<(), Fail> {
         ("a.g --param=ipa-cp-value-list-size=0", 2, 3),
         ("a.g --param=modref-max-refs=1001", 2, 3),
         ("-O2", 2, 1),
+        ("a.g -fwrapv=1", 2, 2),
     ];
     for (line, word, code) in lines {
         assert!(rt; fault_of(rt.alloc(), line)? == (word, code), "{line}");
@@ -120,6 +121,22 @@ fn levels(rt: HostRuntime) -> Result<(), Fail> {
             "{line}"
         );
         assert!(rt; passes.vrp == cp && passes.icf == cp, "{line}");
+    }
+    Ok(())
+}
+
+#[test]
+fn modes(rt: HostRuntime) -> Result<(), Fail> {
+    for (line, mode) in [
+        ("a.g", Mode::Trap),
+        ("a.g -fwrapv", Mode::Wrap),
+        ("-fwrapv a.g -ftrapv", Mode::Trap),
+        ("-ftrapv -fwrapv a.g", Mode::Wrap),
+    ] {
+        let Ok(options) = read_words(&texts(rt.alloc(), line)?) else {
+            panic!(rt; "lawful words");
+        };
+        assert!(rt; options.mode == mode, "{line}");
     }
     Ok(())
 }

@@ -1,6 +1,6 @@
 use Rattle.std.proofs.Common.{rules, ◌≡◌, ◌+◌, drop, sym, ◌∙◌, true, false, Ok, Err, length}
 use Rattle.std.proofs.Math.Seq.{drop-length}
-use Rattle.words.specs.RunWords.{is_option, turns_in, input_from, run_words_of}
+use Rattle.words.specs.RunWords.{is_option, option_of, input_from, run_words_of}
 use Rattle.words.proofs.RunLaws.{at_place, range_is, after_option, at_fault, at_input, no_input}
 use Rattle.words.proofs.run_words.read_run_words.Goals as goal
 
@@ -12,7 +12,7 @@ returns-then-not-is_option c =
     let w = c.index-words-place.result in
     let e = at_place words place w c.loop-place-test.true c.index-words-place.is in
     let plain : is_option w ≡ false = search rules in
-    let here : run_words_of words ≡ input_from c.loop-place.turns place w (drop (place + 1) words) = c.loop-place.invariant ∙ rw e (at_input c.loop-place.turns place w (drop (place + 1) words) plain) in
+    let here : run_words_of words ≡ input_from c.loop-place.settings place w (drop (place + 1) words) = c.loop-place.invariant ∙ rw e (at_input c.loop-place.settings place w (drop (place + 1) words) plain) in
     c.from_input.ensures ∙ rw (c.as_slice-then-not-is_option.ensures, range_is words (place + 1)) (sym here)
 
 -- src/run_words.rt:32:17
@@ -23,8 +23,8 @@ returns-in-Err c =
     let w = c.index-words-place.result in
     let e = at_place words place w c.loop-place-test.true c.index-words-place.is in
     let option : is_option w ≡ true = search rules in
-    let faulty : turns_in w ≡ Err c.in-Err.code = search rules in
-    sym (c.loop-place.invariant ∙ rw e (at_fault c.loop-place.turns place c.in-Err.code w (drop (place + 1) words) option faulty))
+    let faulty : option_of w ≡ Err c.in-Err.code = search rules in
+    sym (c.loop-place.invariant ∙ rw e (at_fault c.loop-place.settings place c.in-Err.code w (drop (place + 1) words) option faulty))
 
 -- src/run_words.rt:25:5
 pub loop-place-preserved : goal.loop-place-preserved
@@ -34,12 +34,12 @@ loop-place-preserved c =
     let w = c.index-words-place.result in
     let e = at_place words place w c.loop-place-test.true c.index-words-place.is in
     let option : is_option w ≡ true = search rules in
-    let lawful : turns_in w ≡ Ok c.in-Ok.number = search rules in
-    c.loop-place.invariant ∙ rw e (after_option c.loop-place.turns place c.in-Ok.number w (drop (place + 1) words) option lawful)
+    let lawful : option_of w ≡ Ok c.in-Ok.item = search rules in
+    c.loop-place.invariant ∙ rw (e, c.with-settings.ensures) (after_option c.loop-place.settings place c.in-Ok.item w (drop (place + 1) words) option lawful)
 
 -- src/run_words.rt:20:1
 pub returns : goal.returns
 returns c =
     let words = c.args.words.now in
     let place : c.loop-place.place ≡ length words = search rules in
-    sym (c.loop-place.invariant ∙ rw (place, drop-length words) (no_input c.loop-place.turns (length words)))
+    sym (c.loop-place.invariant ∙ rw (place, drop-length words) (no_input c.loop-place.settings (length words)))
