@@ -1,5 +1,4 @@
 pub mod Runs
-pub mod Exits
 pub mod Bodies
 pub mod Kept
 pub mod Instances
@@ -7,3 +6,4 @@ pub mod Stack
 pub mod Laws
 pub mod Checks
 pub mod Typed
+pub mod Addressed
