@@ -1,5 +1,5 @@
 -- The functions that values are.
-use Rattle.std.specs.Prelude.{◌≡◌, ℤ, List, Option, Some, None}
+use Rattle.std.specs.Prelude.{◌≡◌, ℤ, List, Some, None}
 use Rattle.std.specs.List.{AllByRecursion}
 use Rattle.gimple_ir.specs.declared.value.Value.{Value}
 use Rattle.gimple_ir.specs.declared.value.Value.TheVariants.{Int, Null, At, Code}

@@ -1,5 +1,5 @@
 -- What holds of each state that comes up in a run.
-use Rattle.std.specs.Prelude.{◌≡◌, ◌<◌, ◌+◌, ℕ, ◌==◌, ◌++◌, ℤ, Bool, true, List, [], ◌∷◌, map, filter, find, length, slice_get, Option, Some, None}
+use Rattle.std.specs.Prelude.{◌≡◌, ◌<◌, ◌+◌, ℕ, ◌==◌, ℤ, Bool, true, List, [], map, filter, find, length, slice_get, Option, Some, None}
 use Rattle.std.specs.List.{AllByRecursion, list_any, list_all}
 use Rattle.gimple_ir.specs.declared.declarations.Global.{Global as GlobalDef}
 use Rattle.gimple_ir.specs.declared.value.Value.{Value}
