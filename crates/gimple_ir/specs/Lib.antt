@@ -1,2 +1,4 @@
 pub mod Size
 pub mod Counts
+pub mod Names
+pub mod Spellable
