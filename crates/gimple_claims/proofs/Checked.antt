@@ -16,7 +16,7 @@ use Rattle.gimple_core.specs.Accepted.{checked, first_fault, known_env}
 use Rattle.gimple_core.proofs.ProgramTyped.{labels_are, globals_are}
 use Rattle.gimple_core.proofs.Passed.{first_passed, demanded, at_passed, no_fault}
 use Rattle.gimple_core.proofs.EnvLemmas.{declared_new}
-use Rattle.gimple_core.proofs.KeptAccepted.{heads_are, Each}
+use Rattle.gimple_core.proofs.Heads.{heads_are, Each}
 use Rattle.gimple_claims.specs.Checks.{StmtsPass, BlocksPass, IsChecked, FunctionsAreChecked}
 
 pub ok_same : {A E : Type 0} {a b : A} → pure {E = E} a ≡ Ok b → a ≡ b

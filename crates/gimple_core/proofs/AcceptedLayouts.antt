@@ -12,7 +12,7 @@ use Rattle.gimple_ir.specs.declared.program.Program.{Program}
 use Rattle.std.specs.Str.{bytes_eq}
 use Rattle.gimple_core.specs.Layout.{layout_of, count_of, HasLayout}
 use Rattle.gimple_core.specs.Accepted.{IsAccepted}
-use Rattle.gimple_core.specs.Env.{Env, Names, has, declared, structs_by_name, globals_by_name}
+use Rattle.gimple_core.specs.Env.{Env, Names, Targets, has, declared, structs_by_name, globals_by_name, targets_of}
 use Rattle.gimple_core.specs.Verdict.{demand, at}
 use Rattle.gimple_ir.specs.declared.fault.Site.TheVariants as site
 use Rattle.gimple_core.specs.Declarations as d
@@ -57,20 +57,20 @@ structs_small all number earlier (x ∷ xs) h (suc k) s e =
 abbrev Small : List StructDef → Decl → Type 0
 Small structs x = (layout_of structs x).size ≤ 2 ^ 24
 
-global_small : (structs : List StructDef) (all earlier out : Names Global) (g : Global) → d.one_global structs all earlier g ≡ Ok out → Small structs g.decl
+global_small : (structs : List StructDef) (ts : Targets) (all earlier out : Names Global) (g : Global) → d.one_global structs ts all earlier g ≡ Ok out → Small structs g.decl
 unfolding d.one_global
-global_small structs all earlier out g h =
+global_small structs ts all earlier out g h =
     let p = first_passed (declared earlier g.decl.name g) _ out h in
     let q = first_passed (d.known_shape (structs_by_name structs) g.decl.shape) _ out p.2 in
     let r = first_passed (d.sized structs g.decl) _ out q.2 in
     sized_small structs g.decl r.1
 
-globals_small : (structs : List StructDef) (all : Names Global) (number : ℕ) (earlier out : Names Global) (gs : List Global) → d.globals structs all number earlier gs ≡ Ok out → All (λ g. Small structs g.decl) gs
+globals_small : (structs : List StructDef) (ts : Targets) (all : Names Global) (number : ℕ) (earlier out : Names Global) (gs : List Global) → d.globals structs ts all number earlier gs ≡ Ok out → All (λ g. Small structs g.decl) gs
 unfolding d.globals
-globals_small structs all number earlier out [] h = All-nil (λ g. Small structs g.decl)
-globals_small structs all number earlier out (g ∷ gs) h =
-    let p = first_passed (at (site.Global number) (d.one_global structs all earlier g)) _ out h in
-    All-cons (λ x. Small structs x.decl) g gs (global_small structs all earlier p.0 g (at_passed _ _ p.0 p.1)) (globals_small structs all (number + 1) p.0 out gs p.2)
+globals_small structs ts all number earlier out [] h = All-nil (λ g. Small structs g.decl)
+globals_small structs ts all number earlier out (g ∷ gs) h =
+    let p = first_passed (at (site.Global number) (d.one_global structs ts all earlier g)) _ out h in
+    All-cons (λ x. Small structs x.decl) g gs (global_small structs ts all earlier p.0 g (at_passed _ _ p.0 p.1)) (globals_small structs ts all (number + 1) p.0 out gs p.2)
 
 -- ---- locals
 
@@ -137,13 +137,13 @@ all_small : (p : Program) → IsAccepted p → AreSmall p
 unfolding first_fault checked
 all_small p h =
     let a = first_passed (d.structs p.structs 0 [] p.structs) _ tt (no_fault (checked p) h) in
-    let b = first_passed (d.globals p.structs (globals_by_name p.globals) 0 [] p.globals) _ tt a.2 in
+    let b = first_passed (d.globals p.structs (targets_of p) (globals_by_name p.globals) 0 [] p.globals) _ tt a.2 in
     let c = first_passed (d.heads b.0 0 [] p.functions) _ tt b.2 in
     let e = first_passed (d.main 0 p.functions) _ tt c.2 in
     record {
       structs = structs_small p.structs 0 [] p.structs a.1;
-      globals = globals_small p.structs (globals_by_name p.globals) 0 [] b.0 p.globals b.1;
-      locals = functions_small (known_env p.structs b.0) c.0 0 p.functions e.2;
+      globals = globals_small p.structs (targets_of p) (globals_by_name p.globals) 0 [] b.0 p.globals b.1;
+      locals = functions_small (known_env p.structs (targets_of p) b.0) c.0 0 p.functions e.2;
     }
 
 -- ---- layouts

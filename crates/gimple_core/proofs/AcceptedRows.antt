@@ -3,10 +3,11 @@ use Rattle.std.proofs.Common.{◌≡◌, ℕ, true, List, [], ◌∷◌, Option,
 use Rattle.gimple_ir.specs.declared.scalar.Scalar.{Scalar}
 use Rattle.gimple_ir.specs.declared.scalar.Scalar.TheVariants.{I32, I64, Ptr}
 use Rattle.gimple_ir.specs.declared.operand.Operand.{Operand}
-use Rattle.gimple_ir.specs.declared.operand.Operand.TheVariants.{Reg, Number}
+use Rattle.gimple_ir.specs.declared.operand.Operand.TheVariants.{Reg, Number, Address}
 use Rattle.gimple_ir.specs.declared.operand.Base.TheVariants.{Variable}
 use Rattle.gimple_ir.specs.declared.statement.Stmt.{Stmt}
-use Rattle.gimple_ir.specs.declared.statement.Stmt.TheVariants.{Copy, Load, Store, Call}
+use Rattle.gimple_ir.specs.declared.statement.Stmt.TheVariants.{Copy, Load, Store, Call, Indirect}
+use Rattle.gimple_ir.specs.declared.statement.Signature.{Signature}
 use Rattle.gimple_ir.specs.declared.block.Case.{Case}
 use Rattle.gimple_ir.specs.declared.block.Block.{Block}
 use Rattle.gimple_ir.specs.declared.block.End.{End}
@@ -92,7 +93,7 @@ nothing = record { name = v; params = []; result = None; locals = []; registers 
 
 -- global const i32 g = {5}; and the functions f, v and main with these blocks
 abbrev program : List Block → Program
-program blocks = record { structs = []; globals = global g (Plain I32) None (Number (pos 5) ∷ []) ∷ []; functions = taker ∷ nothing ∷ main_of blocks ∷ [] }
+program blocks = record { profile = 1; structs = []; globals = global g (Plain I32) None (Number (pos 5) ∷ []) ∷ []; functions = taker ∷ nothing ∷ main_of blocks ∷ [] }
 
 -- the fault of a statement of main, and of an end
 abbrev of_stmt : Stmt → Option TypeFault
@@ -103,10 +104,24 @@ of_end end = first_fault (program (block [] end ∷ []))
 
 -- the fault of structs and globals before a main
 abbrev of_declared : List StructDef → List Global → Option TypeFault
-of_declared structs globals = first_fault (record { structs = structs; globals = globals; functions = main_of (block [] zero_result ∷ []) ∷ [] })
+of_declared structs globals = first_fault (record { profile = 1; structs = structs; globals = globals; functions = main_of (block [] zero_result ∷ []) ∷ [] })
 
 abbrev of_functions : List Function → Option TypeFault
-of_functions functions = first_fault (record { structs = []; globals = []; functions = functions })
+of_functions functions = first_fault (record { profile = 1; structs = []; globals = []; functions = functions })
+
+-- the same in profile 2
+abbrev of_stmt_2 : Stmt → Option TypeFault
+of_stmt_2 stmt = first_fault (record (program (block (stmt ∷ []) zero_result ∷ [])) { profile = 2 })
+
+abbrev of_item_2 : Operand → Option TypeFault
+of_item_2 item = first_fault (record (program (block [] zero_result ∷ [])) { profile = 2; globals = global g (Plain Ptr) None (item ∷ []) ∷ [] })
+
+-- i32 (i32)
+abbrev signature : Signature
+signature = record { params = I32 ∷ []; result = Some I32 }
+
+abbrev void : Signature
+void = record { params = []; result = None }
 
 abbrev case_of : ℕ → ℕ → Case
 case_of value target = record { value = pos value; target = target }
@@ -141,3 +156,25 @@ rows : (of_functions [] ≡ fault 3 site.Whole)
     × (of_end (Switch (Reg x) (case_of 1 2 ∷ case_of 1 2 ∷ []) 2) ≡ fault 17 here)
 unfolding first_fault checked layout.layout_of d.structs d.one_struct d.fields d.sized d.globals d.one_global d.item d.items d.heads d.head d.main d.functions d.one_function d.own d.registers d.register d.is_free d.locals d.local d.labels d.new_label s.blocks s.body s.statement s.called s.arguments s.printed s.place_at s.arith s.right_side s.count s.compared s.common_scalar s.integer s.converted s.operand s.ending s.label s.case_values s.new_case s.case_labels s.returned e.scalar_of
 rows = (refl, refl, refl, refl, refl, refl, refl, refl, refl, refl, refl, refl, refl, refl, refl, refl, refl, refl, refl, refl, refl, refl, refl, refl, refl)
+
+-- addresses of functions and calls through registers
+rows_2 : (of_stmt (Copy p (Address f (pos 0))) ≡ fault 1 here)
+    × (of_stmt (Indirect (Some x) signature p (Reg x ∷ [])) ≡ fault 1 here)
+    × (of_stmt_2 (Copy p (Address f (pos 0))) ≡ None)
+    × (of_stmt_2 (Indirect (Some x) signature p (Reg x ∷ [])) ≡ None)
+    × (of_item_2 (Address main_name (pos 0)) ≡ None)
+    × (of_stmt_2 (Copy p (Address z (pos 0))) ≡ fault 1 here)
+    × (of_stmt_2 (Copy p (Address f (pos 1))) ≡ fault 11 here)
+    × (of_item_2 (Address f (pos 1)) ≡ fault 11 (site.Global 0))
+    × (of_item_2 (Address g (pos 1)) ≡ None)
+    × (of_item_2 (Address l (pos 0)) ≡ fault 1 (site.Global 0))
+    × (of_stmt_2 (Load x I32 (record { base = Variable f; offset = pos 0 })) ≡ fault 1 here)
+    × (of_stmt_2 (Indirect (Some x) signature z []) ≡ fault 1 here)
+    × (of_stmt_2 (Indirect (Some x) signature x []) ≡ fault 4 here)
+    × (of_stmt_2 (Indirect (Some x) signature p []) ≡ fault 5 here)
+    × (of_stmt_2 (Indirect (Some x) signature p (Reg y ∷ [])) ≡ fault 6 here)
+    × (of_stmt_2 (Indirect (Some x) void p []) ≡ fault 7 here)
+    × (of_stmt_2 (Indirect (Some y) signature p (Reg x ∷ [])) ≡ fault 4 here)
+    × (of_stmt_2 (Indirect None signature p (Reg x ∷ [])) ≡ None)
+unfolding first_fault checked layout.layout_of d.structs d.one_struct d.fields d.sized d.globals d.one_global d.item d.items d.heads d.head d.main d.functions d.one_function d.own d.registers d.register d.is_free d.locals d.local d.labels d.new_label s.blocks s.body s.statement s.called s.called_through s.arguments s.printed s.place_at s.arith s.right_side s.count s.compared s.common_scalar s.integer s.converted s.operand s.ending s.label s.case_values s.new_case s.case_labels s.returned e.scalar_of
+rows_2 = (refl, refl, refl, refl, refl, refl, refl, refl, refl, refl, refl, refl, refl, refl, refl, refl, refl, refl)

@@ -1,6 +1,8 @@
 -- What passed checks say of statements and ends.
-use Rattle.std.proofs.Common.{◌≡◌, ℕ, ◌+◌, ◌==◌, Bool, true, false, not, if◌then◌else◌, List, [], ◌∷◌, length, Option, Some, None, Ok, sym, ap, ◌∙◌, subst, arith, ℤ}
+use Rattle.std.proofs.Common.{◌≡◌, ℕ, ◌+◌, ◌==◌, Bool, true, false, not, ◌||◌, is_some, if◌then◌else◌, List, [], ◌∷◌, length, Option, Some, None, Ok, sym, ap, ◌∙◌, subst, arith, refl, ℤ, pos}
+use Rattle.std.specs.Ordering.{int_eq}
 use Rattle.std.proofs.lemmas.Bool.{eqb-true}
+use Rattle.std.proofs.lemmas.List.{length-map}
 use Rattle.gimple_ir.specs.declared.scalar.Scalar.{Scalar}
 use Rattle.gimple_ir.specs.declared.scalar.Scalar.TheVariants.{I64, Ptr}
 use Rattle.gimple_ir.specs.declared.scalar.Op.{Op}
@@ -10,17 +12,18 @@ use Rattle.gimple_ir.specs.declared.operand.Operand.TheVariants.{Reg, Number, Nu
 use Rattle.gimple_ir.specs.declared.operand.Base.{Base}
 use Rattle.gimple_ir.specs.declared.operand.Base.TheVariants.{Reg as RegBase, Variable}
 use Rattle.gimple_ir.specs.declared.statement.Stmt.{Stmt}
-use Rattle.gimple_ir.specs.declared.statement.Stmt.TheVariants.{Copy, Arith, Compare, Convert, Load, Store, Call, Get, Put, Abort}
+use Rattle.gimple_ir.specs.declared.statement.Stmt.TheVariants.{Copy, Arith, Compare, Convert, Load, Store, Call, Indirect, Get, Put, Abort}
 use Rattle.gimple_ir.specs.declared.block.Case.{Case}
 use Rattle.gimple_ir.specs.declared.block.End.{End}
 use Rattle.gimple_ir.specs.declared.block.End.TheVariants.{Goto, If, Switch, Return}
 use Rattle.gimple_ir.specs.declared.block.Block.{Block}
 use Rattle.gimple_ir.specs.declared.declarations.Register.{Register}
+use Rattle.gimple_ir.specs.declared.statement.Signature.{Signature}
 use Rattle.gimple_ir.specs.declared.program.Function.{Function}
 use Rattle.gimple_core.specs.Memory.{same_scalar}
 use Rattle.gimple_core.specs.Operators.{in_scalar}
 use Rattle.gimple_core.specs.Verdict.{and_then, demand, found, at}
-use Rattle.gimple_core.specs.Env.{Env, Names, named, scalar_of, is_variable, variable}
+use Rattle.gimple_core.specs.Env.{Env, Names, named, scalar_of, is_target, is_variable, variable}
 use Rattle.gimple_core.specs.Statements as s
 use Rattle.gimple_core.specs.Typed.{IsRegister, HasScalar, IsIntegerRegister, IsCount, ArithTyped, ComparedTyped, PlaceTyped, Fit, TakesResult, Printable, StatementTyped, HasLabel, CasesTyped, ReturnTyped, EndTyped, BodyTyped, BlocksTyped}
 use Rattle.gimple_core.proofs.ScalarLemmas.{same_scalar_true, pointer_is}
@@ -49,8 +52,9 @@ operand_so env wrong scalar (Number z) h =
 operand_so env wrong scalar Null h = demanded _ wrong h
 operand_so env wrong scalar (Address name offset) h =
     let p = first_passed (demand (s.is_pointer scalar) wrong) _ tt h in
-    let q = first_passed (demand (is_variable env name) 1) _ tt p.2 in
-    (demanded _ wrong p.1, demanded _ 1 q.1, demanded _ 13 q.2)
+    let q = first_passed (demand (is_variable env name || is_target env.targets name) 1) _ tt p.2 in
+    let r = first_passed (demand (in_scalar I64 offset) 13) _ tt q.2 in
+    (demanded _ wrong p.1, demanded _ 1 q.1, demanded _ 13 r.1, demanded _ 11 r.2)
 
 integer_so : (env : Env) (x : Operand) (scalar : Scalar) → s.integer env x ≡ Ok scalar → IsIntegerRegister env scalar x
 unfolding s.integer
@@ -111,15 +115,15 @@ place_so env scalar (Variable name) offset h =
 
 -- ---- calls
 
-fit : (env : Env) (formals : List Register) (xs : List Operand) → length xs ≡ length formals → s.arguments env formals xs ≡ Ok tt → Fit env formals xs
+fit : (env : Env) (scalars : List Scalar) (xs : List Operand) → length xs ≡ length scalars → s.arguments env scalars xs ≡ Ok tt → Fit env scalars xs
 unfolding s.arguments
 fit env [] [] e h = tt
 fit env [] (x ∷ xs) e h = let z : ⊥ = omega (arith, e) in absurd z
-fit env (f ∷ formals) [] e h = let z : ⊥ = omega (arith, e) in absurd z
-fit env (f ∷ formals) (x ∷ xs) e h =
-    let p = first_passed (s.operand env 6 f.scalar x) _ tt h in
-    let l : length xs ≡ length formals = omega (arith, e) in
-    (operand_so env 6 f.scalar x p.1, fit env formals xs l p.2)
+fit env (scalar ∷ scalars) [] e h = let z : ⊥ = omega (arith, e) in absurd z
+fit env (scalar ∷ scalars) (x ∷ xs) e h =
+    let p = first_passed (s.operand env 6 scalar x) _ tt h in
+    let l : length xs ≡ length scalars = omega (arith, e) in
+    (operand_so env 6 scalar x p.1, fit env scalars xs l p.2)
 
 takes : (env : Env) (to : Option (List ℕ)) (scalar result : Option Scalar) → s.target env to ≡ Ok scalar → s.result_fits scalar result ≡ Ok tt → TakesResult env to result
 takes env None scalar result h k = tt
@@ -132,14 +136,34 @@ takes env (Some name) scalar result h k =
     by own None r k = absurd (err_no k)
     by own (Some other) r k = register_as env name own other (same_scalar_true own other (demanded _ 4 k)) r
 
-call_so : (env : Env) (functions : Names Function) (to : Option (List ℕ)) (callee : List ℕ) (xs : List Operand) → s.called env functions to callee xs ≡ Ok tt → (f : Function) × (named callee functions ≡ Some f) × Fit env f.params xs × TakesResult env to f.result
+call_so : (env : Env) (functions : Names Function) (to : Option (List ℕ)) (callee : List ℕ) (xs : List Operand) → s.called env functions to callee xs ≡ Ok tt → (f : Function) × (named callee functions ≡ Some f) × Fit env (s.scalars_of f.params) xs × TakesResult env to f.result
 unfolding s.called
 call_so env functions to callee xs h =
     let p = first_passed (s.target env to) _ tt h in
     let q = first_passed (found (named callee functions) 1) _ tt p.2 in
     let r = first_passed (demand (length xs == length q.0.params) 5) _ tt q.2 in
-    let t = first_passed (s.arguments env q.0.params xs) _ tt r.2 in
-    (q.0, found_so (named callee functions) 1 q.0 q.1, fit env q.0.params xs (eqb-true (length xs) (length q.0.params) (demanded _ 5 r.1)) t.1, takes env to p.0 q.0.result p.1 t.2)
+    let t = first_passed (s.arguments env (s.scalars_of q.0.params) xs) _ tt r.2 in
+    let few : length xs ≡ length (s.scalars_of q.0.params) = eqb-true (length xs) (length q.0.params) (demanded _ 5 r.1) ∙ sym (length-map q.0.params (λ (r : Register). r.scalar)) in
+    (q.0, found_so (named callee functions) 1 q.0 q.1, fit env (s.scalars_of q.0.params) xs few t.1, takes env to p.0 q.0.result p.1 t.2)
+
+found_some : {A : Type 0} (o : Option A) (code : ℕ) (a : A) → found o code ≡ Ok a → is_some o ≡ true
+found_some (Some x) code a h = refl
+found_some None code a h = absurd (err_no h)
+
+indirect_so : (env : Env) (functions : Names Function) (to : Option (List ℕ)) (signature : Signature) (callee : List ℕ) (xs : List Operand) → s.called_through env to signature callee xs ≡ Ok tt → StatementTyped env functions (Indirect to signature callee xs)
+unfolding s.called_through
+indirect_so env functions to signature callee xs h =
+    let p = first_passed (s.target env to) _ tt h in
+    let q = first_passed (found env.targets 1) _ tt p.2 in
+    let r = first_passed (scalar_of env callee) _ tt q.2 in
+    let t = first_passed (demand (s.is_pointer r.0) 4) _ tt r.2 in
+    let u = first_passed (demand (length xs == length signature.params) 5) _ tt t.2 in
+    let v = first_passed (s.arguments env signature.params xs) _ tt u.2 in (
+      found_some env.targets 1 q.0 q.1,
+      register_as env callee r.0 Ptr (pointer_is r.0 (demanded _ 4 t.1)) (register_so env callee r.0 r.1),
+      fit env signature.params xs (eqb-true (length xs) (length signature.params) (demanded _ 5 u.1)) v.1,
+      takes env to p.0 signature.result p.1 v.2,
+    )
 
 -- ---- statements
 
@@ -178,6 +202,7 @@ statement_so env functions (Store scalar place from) h =
     let q = first_passed (demand (not (s.is_read_only env place.base)) 14) _ tt p.2 in
     (place_so env scalar place.base place.offset p.1, not_true _ (demanded _ 14 q.1), operand_so env 4 scalar from q.2)
 statement_so env functions (Call to callee xs) h = call_so env functions to callee xs h
+statement_so env functions (Indirect to signature callee xs) h = indirect_so env functions to signature callee xs h
 statement_so env functions (Get to) h =
     let p = first_passed (scalar_of env to) _ tt h in
     register_as env to p.0 I64 (same_scalar_true p.0 I64 (demanded _ 4 p.2)) (register_so env to p.0 p.1)

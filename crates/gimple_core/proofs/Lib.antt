@@ -12,6 +12,8 @@ mod AcceptedRows
 pub mod Passed
 pub mod AcceptedLayouts
 pub mod EnvLemmas
+pub mod Heads
+pub mod SameChecks
 pub mod KeptAccepted
 pub mod AcceptedTyped
 pub mod ProgramTyped

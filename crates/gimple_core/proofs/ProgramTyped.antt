@@ -15,13 +15,13 @@ use Rattle.gimple_ir.specs.declared.fault.Site.TheVariants as site
 use Rattle.gimple_core.specs.Run.{function_named, main_name}
 use Rattle.gimple_core.specs.Layout.{layout_of}
 use Rattle.gimple_core.specs.Verdict.{Verdict, demand, at}
-use Rattle.gimple_core.specs.Env.{Env, Names, named, has, declared, globals_by_name, functions_by_name, decls_by_name, registers_by_name, structs_by_name}
+use Rattle.gimple_core.specs.Env.{Env, Names, Targets, named, has, declared, targets_of, globals_by_name, functions_by_name, decls_by_name, registers_by_name, structs_by_name}
 use Rattle.gimple_core.specs.Declarations as d
 use Rattle.gimple_core.specs.Accepted.{checked, first_fault, known_env}
 use Rattle.gimple_core.specs.Typed.{BlocksTyped, FunctionsTyped, AcceptedTyped}
 use Rattle.gimple_core.proofs.Passed.{first_passed, demanded, at_passed, no_fault, err_no}
 use Rattle.gimple_core.proofs.EnvLemmas.{same_test, named_find, declared_new}
-use Rattle.gimple_core.proofs.KeptAccepted.{heads_are, heads_find, Each}
+use Rattle.gimple_core.proofs.Heads.{heads_are, heads_find, Each}
 use Rattle.gimple_core.proofs.AcceptedTyped.{blocks_so}
 
 -- ---- the names of a function
@@ -96,28 +96,37 @@ own_is known out functions f h =
     let c' = c ∙ ap (λ (x : Env). record x { registers = x.registers ++ registers_by_name f.registers }) b' in
     sym e ∙ ap (λ ls. record r.0 { labels = ls }) (labels_are [] u.0 f.blocks u.1) ∙ ap (λ (x : Env). record x { labels = map (λ b. b.label) f.blocks }) c'
 
+own_has_blocks : (known out : Env) (functions : Names Function) (f : Function) → d.own known functions f ≡ Ok out → d.has_blocks f.blocks ≡ true
+unfolding d.own
+own_has_blocks known out functions f h =
+    let p = first_passed (d.registers (record known { locals = []; registers = []; labels = []; result = f.result }) functions f.params) _ out h in
+    let q = first_passed (d.locals p.0 functions f.locals) _ out p.2 in
+    let r = first_passed (d.registers q.0 functions f.registers) _ out q.2 in
+    let t = first_passed (demand (d.has_blocks f.blocks) 10) _ out r.2 in
+    demanded _ 10 t.1
+
 -- ---- globals
 
 passed_on : (a b : Names Global) → (let r : Verdict (Names Global) = Ok a in r) ≡ Ok b → b ≡ a
 passed_on a b h = cc
 
-global_is : (structs : List StructDef) (all earlier out : Names Global) (g : Global) → d.one_global structs all earlier g ≡ Ok out → out ≡ earlier ++ (g.decl.name, g) ∷ []
+global_is : (structs : List StructDef) (ts : Targets) (all earlier out : Names Global) (g : Global) → d.one_global structs ts all earlier g ≡ Ok out → out ≡ earlier ++ (g.decl.name, g) ∷ []
 unfolding d.one_global
-global_is structs all earlier out g h =
+global_is structs ts all earlier out g h =
     let p = first_passed (declared earlier g.decl.name g) _ out h in
     let q = first_passed (d.known_shape (structs_by_name structs) g.decl.shape) _ out p.2 in
     let r = first_passed (d.sized structs g.decl) _ out q.2 in
     let t = first_passed (demand (nat_le (length g.items) (length (layout_of structs g.decl).slots)) 11) _ out r.2 in
-    let u = first_passed (d.items all (layout_of structs g.decl).slots g.items) _ out t.2 in
+    let u = first_passed (d.items ts all (layout_of structs g.decl).slots g.items) _ out t.2 in
     passed_on p.0 out u.2 ∙ (declared_new earlier g.decl.name g p.0 p.1).1
 
-pub globals_are : (structs : List StructDef) (all : Names Global) (number : ℕ) (earlier out : Names Global) (gs : List Global) → d.globals structs all number earlier gs ≡ Ok out → out ≡ earlier ++ globals_by_name gs
+pub globals_are : (structs : List StructDef) (ts : Targets) (all : Names Global) (number : ℕ) (earlier out : Names Global) (gs : List Global) → d.globals structs ts all number earlier gs ≡ Ok out → out ≡ earlier ++ globals_by_name gs
 unfolding d.globals
-globals_are structs all number earlier out [] h = let e : earlier ≡ out = cc in sym e ∙ sym (append-nil earlier)
-globals_are structs all number earlier out (g ∷ gs) h =
-    let p = first_passed (at _ (d.one_global structs all earlier g)) _ out h in
-    globals_are structs all (number + 1) p.0 out gs p.2
-    ∙ ap (λ l. l ++ globals_by_name gs) (global_is structs all earlier p.0 g (at_passed _ (d.one_global structs all earlier g) p.0 p.1))
+globals_are structs ts all number earlier out [] h = let e : earlier ≡ out = cc in sym e ∙ sym (append-nil earlier)
+globals_are structs ts all number earlier out (g ∷ gs) h =
+    let p = first_passed (at _ (d.one_global structs ts all earlier g)) _ out h in
+    globals_are structs ts all (number + 1) p.0 out gs p.2
+    ∙ ap (λ l. l ++ globals_by_name gs) (global_is structs ts all earlier p.0 g (at_passed _ (d.one_global structs ts all earlier g) p.0 p.1))
     ∙ append_assoc earlier ((g.decl.name, g) ∷ []) (globals_by_name gs)
 
 -- ---- main
@@ -151,16 +160,17 @@ main_so number (f ∷ fs) h = by (bytes_eq main_name f.name) (bytes_eq f.name ma
 
 -- ---- functions
 
-functions_so : (p : Program) (number : ℕ) (fs : List Function) → Each (λ f. named f.name (functions_by_name p.functions) ≡ Some f) fs → d.functions (known_env p.structs (globals_by_name p.globals)) (functions_by_name p.functions) number fs ≡ Ok tt → FunctionsTyped p fs
+functions_so : (p : Program) (number : ℕ) (fs : List Function) → Each (λ f. named f.name (functions_by_name p.functions) ≡ Some f) fs → d.functions (known_env p.structs (targets_of p) (globals_by_name p.globals)) (functions_by_name p.functions) number fs ≡ Ok tt → FunctionsTyped p fs
 unfolding d.functions d.one_function function_named
 functions_so p number [] u h = tt
 functions_so p number (f ∷ fs) u h =
-    let known = known_env p.structs (globals_by_name p.globals) in
+    let known = known_env p.structs (targets_of p) (globals_by_name p.globals) in
     let callees = functions_by_name p.functions in
     let a = first_passed (d.one_function known callees number f) _ tt h in
     let b = first_passed (at _ (d.own known callees f)) _ tt a.1 in
     let e = own_is known b.0 callees f (at_passed _ (d.own known callees f) b.0 b.1) in (
       sym (named_find (λ g. g.name) f.name p.functions) ∙ u.0,
+      own_has_blocks known b.0 callees f (at_passed _ (d.own known callees f) b.0 b.1),
       subst (λ (env : Env). BlocksTyped env callees f.blocks) e (blocks_so b.0 callees number 1 f.blocks b.2),
       functions_so p (number + 1) fs u.1 a.2,
     )
@@ -171,11 +181,11 @@ unfolding first_fault checked
 accepted_typed p h =
     let all = no_fault _ h in
     let a = first_passed (d.structs p.structs 0 [] p.structs) _ tt all in
-    let b = first_passed (d.globals p.structs (globals_by_name p.globals) 0 [] p.globals) _ tt a.2 in
+    let b = first_passed (d.globals p.structs (targets_of p) (globals_by_name p.globals) 0 [] p.globals) _ tt a.2 in
     let c = first_passed (d.heads b.0 0 [] p.functions) _ tt b.2 in
     let m = first_passed (d.main 0 p.functions) _ tt c.2 in
-    let gs : b.0 ≡ globals_by_name p.globals = globals_are p.structs (globals_by_name p.globals) 0 [] b.0 p.globals b.1 in
+    let gs : b.0 ≡ globals_by_name p.globals = globals_are p.structs (targets_of p) (globals_by_name p.globals) 0 [] b.0 p.globals b.1 in
     let fs : c.0 ≡ functions_by_name p.functions = heads_are b.0 0 [] c.0 p.functions c.1 in
     let found = subst (λ t. Each (λ f. named f.name t ≡ Some f) p.functions) fs (heads_find b.0 0 [] c.0 p.functions c.1) in
-    let bodies = subst (λ t. d.functions (known_env p.structs b.0) t 0 p.functions ≡ Ok tt) fs m.2 in
-    (main_so 0 p.functions m.1, functions_so p 0 p.functions found (subst (λ t. d.functions (known_env p.structs t) (functions_by_name p.functions) 0 p.functions ≡ Ok tt) gs bodies))
+    let bodies = subst (λ t. d.functions (known_env p.structs (targets_of p) b.0) t 0 p.functions ≡ Ok tt) fs m.2 in
+    (main_so 0 p.functions m.1, functions_so p 0 p.functions found (subst (λ t. d.functions (known_env p.structs (targets_of p) t) (functions_by_name p.functions) 0 p.functions ≡ Ok tt) gs bodies))

@@ -1,6 +1,6 @@
 -- What the names, statements and ends of a program without a type fault are.
 use Rattle.std.specs.Ordering.{int_eq}
-use Rattle.std.specs.Prelude.{◌≡◌, ℕ, ◌==◌, ◌++◌, true, false, ◌&&◌, ◌||◌, pos, List, [], ◌∷◌, map, Option, Some, None, ℤ}
+use Rattle.std.specs.Prelude.{◌≡◌, ℕ, ◌==◌, ◌++◌, true, false, ◌&&◌, ◌||◌, pos, List, [], ◌∷◌, map, is_some, Option, Some, None, ℤ}
 use Rattle.std.specs.List.{list_any}
 use Rattle.gimple_ir.specs.declared.scalar.Scalar.{Scalar}
 use Rattle.gimple_ir.specs.declared.scalar.Scalar.TheVariants.{I32, I64, Ptr}
@@ -25,6 +25,7 @@ use Rattle.gimple_core.specs.Layout.{layout_of}
 use Rattle.gimple_core.specs.Run.{function_named, main_name}
 use Rattle.gimple_core.specs.Env.{Env, Names, named, targets_of, is_target, is_variable, variable, globals_by_name, functions_by_name, decls_by_name, registers_by_name}
 use Rattle.gimple_core.specs.Accepted.{first_fault}
+use Rattle.gimple_core.specs.Declarations.{has_blocks}
 use Rattle.gimple_core.specs.Statements.{is_pointer, is_shift, is_add, is_order, is_printable, is_read_only, has_slot, scalars_of}
 
 -- the name is a register of this scalar
@@ -87,7 +88,7 @@ StatementTyped env functions (Convert to scalar from) = IsRegister env scalar to
 StatementTyped env functions (Load to scalar place) = IsRegister env scalar to × PlaceTyped env scalar place.base place.offset
 StatementTyped env functions (Store scalar place from) = PlaceTyped env scalar place.base place.offset × (is_read_only env place.base ≡ false) × HasScalar env scalar from
 StatementTyped env functions (Call to callee xs) = (f : Function) × (named callee functions ≡ Some f) × Fit env (scalars_of f.params) xs × TakesResult env to f.result
-StatementTyped env functions (Indirect to signature callee xs) = IsRegister env Ptr callee × Fit env signature.params xs × TakesResult env to signature.result
+StatementTyped env functions (Indirect to signature callee xs) = (is_some env.targets ≡ true) × IsRegister env Ptr callee × Fit env signature.params xs × TakesResult env to signature.result
 StatementTyped env functions (Get to) = IsRegister env I64 to
 StatementTyped env functions (Put from) = Printable env from
 StatementTyped env functions Abort = Unit {0}
@@ -131,10 +132,10 @@ env_of p f = record {
   result = f.result;
 }
 
--- each function is the first one of its name, and its statements and ends are typed
+-- each function is the first one of its name and has a block, and its statements and ends are typed
 abbrev pub FunctionsTyped : Program → List Function → Type 0
 FunctionsTyped p [] = Unit {0}
-FunctionsTyped p (f ∷ fs) = (function_named f.name p.functions ≡ Some f) × BlocksTyped (env_of p f) (functions_by_name p.functions) f.blocks × FunctionsTyped p fs
+FunctionsTyped p (f ∷ fs) = (function_named f.name p.functions ≡ Some f) × (has_blocks f.blocks ≡ true) × BlocksTyped (env_of p f) (functions_by_name p.functions) f.blocks × FunctionsTyped p fs
 
 -- there is a main without formals that gives an i32
 abbrev pub MainTyped : Program → Type 0

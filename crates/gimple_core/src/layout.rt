@@ -16,9 +16,9 @@ use std::alloc::Global as Heap;
 
 /// A struct's name with its layout.
 #[derive(Debug, Drop)]
-pub struct KnownLayout {
-    pub name: Text,
-    pub layout: Layout,
+pub(crate) struct KnownLayout {
+    pub(crate) name: Text,
+    pub(crate) layout: Layout,
 }
 
 /// The least multiple of `align` that is not below `n`.
@@ -70,7 +70,7 @@ fn repeat(
 }
 
 /// The layout of the first struct of this name.
-pub fn named_layout<'a>(known: &'a [KnownLayout], name: &Text) -> Option<&'a KnownLayout>
+fn named_layout<'a>(known: &'a [KnownLayout], name: &Text) -> Option<&'a KnownLayout>
     ensures { option_copied result ≡ find (λ k. bytes_eq k.name name.now) known.now }
 {
     known.iter().find(|k| same_name(&k.name, name))
@@ -135,11 +135,7 @@ fn struct_layout(alloc: Heap, known: &[KnownLayout], fields: &[Decl]) -> Result<
 }
 
 /// Puts the layout of a struct behind those of the structs before it.
-pub fn push_layout(
-    alloc: Heap,
-    known: &mut Vec<KnownLayout>,
-    s: &StructDef,
-) -> Result<(), OutOfMemory>
+fn push_layout(alloc: Heap, known: &mut Vec<KnownLayout>, s: &StructDef) -> Result<(), OutOfMemory>
     requires size { (with_fields known.old.items empty_layout s.now.fields).size ≤ 2 ^ 24 }
     requires layouts { All (λ k. IsLayout k.layout) known.old.items }
     ensures same { OnOk result (known.new.items ≡ known.old.items ++ record { name = s.now.name; layout = with_fields known.old.items empty_layout s.now.fields } ∷ []) }

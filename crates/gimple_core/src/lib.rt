@@ -16,12 +16,12 @@ pub use acceptance::accepted_is_typed;
 pub use checked::{Checked, checked_crosses};
 pub use gimple_ir::{
     Base, Block, Blocks, Case, Cases, Cmp, Constant, Constants, Decl, Decls, Edge, Edges, End,
-    Exact, Function, FunctionName, Functions, Global, Globals, Items, Layout, LayoutSlot, Listed, Marks, Mode, Names,
-    Numbers, Object, Op, Operand, Operands, OutOfMemory, Outcome, Params, Passes, Place, Point,
-    Points, Program, Register, Registers, Scalar, Scalars, Shape, Signature, Site, Slots, Stmt, Stmts,
-    StructDef, StructDefs, Text, TrapKind, TypeFault, Value,
+    Exact, Function, FunctionName, Functions, Global, Globals, Items, Layout, LayoutSlot, Listed,
+    Marks, Mode, Names, Numbers, Object, Op, Operand, Operands, OutOfMemory, Outcome, Params,
+    Passes, Place, Point, Points, Program, Register, Registers, Scalar, Scalars, Shape, Signature,
+    Site, Slots, Stmt, Stmts, StructDef, StructDefs, Text, TrapKind, TypeFault, Value,
 };
-pub use layout::{KnownLayout, layout_of, named_layout, push_layout};
+pub use layout::layout_of;
 pub use machine::{Extent, FoundSlot, MemorySlot};
 pub use names::same_name;
 pub use operators::{bits, eval_cmp, eval_op, fits, from_low, half, low, modulus, signed, wrap};

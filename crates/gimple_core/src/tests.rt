@@ -97,8 +97,14 @@ fn computes_as_two_complement_machines_do(rt: HostRuntime) {
         }
     }
     assert_eq!(rt; eval_op(Mode::Wrap, Op::Add, Scalar::I8, 127, 1), Ok(-128));
-    assert_eq!(rt; eval_op(Mode::Wrap, Op::Mul, Scalar::I32, 65536, 65536), Ok(0));
-    assert_eq!(rt; eval_op(Mode::Wrap, Op::Div, Scalar::I8, -128, -1), Err(TrapKind::Overflow));
+    assert_eq!(rt;
+        eval_op(Mode::Wrap, Op::Mul, Scalar::I32, 65536, 65536),
+        Ok(0)
+    );
+    assert_eq!(rt;
+        eval_op(Mode::Wrap, Op::Div, Scalar::I8, -128, -1),
+        Err(TrapKind::Overflow)
+    );
     assert_eq!(rt; wrap(Scalar::I8, 255), -1);
     assert_eq!(rt; wrap(Scalar::U8, -1), 255);
     assert!(rt; eval_cmp(Cmp::Lt, -1, 0) && !eval_cmp(Cmp::Lt, 0, 0));
