@@ -57,7 +57,14 @@ impl<'a> NamedFunctions<'a> {
     pub fn place(&self, name: &Text) -> Option<usize>
         ensures { result ≡ position (λ f. bytes_eq f.name name.now) self.now }
     {
-        self.names.place(name.as_slice())
+        self.place_of(name.as_slice())
+    }
+
+    /// The place of the first function of a name that is given by its bytes; None exactly where no function has it.
+    pub fn place_of(&self, name: &[u8]) -> Option<usize>
+        ensures { result ≡ position (λ f. bytes_eq f.name name.now) self.now }
+    {
+        self.names.place(name)
     }
 
     /// The first function of a name; None exactly where no function has it.

@@ -29,11 +29,10 @@ impl<'a> Model for Names<'a> {
     ghost invariant = { λ t. IsTrue t.distinct → map (λ k. k.now) t.set.keys ≡ map (λ k. k.now) t.names.items };
 }
 
-#[tactic(auto, using(gimple_core::proofs::EnvLemmas::same_test))]
 fn is_same(left: &[u8], right: &[u8]) -> bool
     ensures { result ≡ bytes_eq left.now right.now }
 {
-    right == left
+    left == right
 }
 
 fn place_from_front(names: &[&[u8]], name: &[u8]) -> Option<usize>
