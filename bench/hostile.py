@@ -90,8 +90,8 @@ def run(tool, folder, text):
 
 
 def main():
-    here = os.path.dirname(os.path.abspath(__file__))
-    tool = os.path.abspath(sys.argv[1]) if len(sys.argv) > 1 else os.path.join(here, "..", "bin", "gimple-ipa")
+    built = os.path.join(os.path.dirname(os.path.abspath(__file__)), "..", "bin", "built")
+    tool = os.path.abspath(sys.argv[1]) if len(sys.argv) > 1 else subprocess.check_output([built, "--prove", "gimple-ipa"], text=True).strip()
     wrong = 0
     with tempfile.TemporaryDirectory() as folder:
         for name, text, wanted in cases():
