@@ -19,7 +19,7 @@ use Rattle.gimple_ir.specs.declared.block.Block.{Block}
 use Rattle.gimple_ir.specs.declared.block.End.{End}
 use Rattle.gimple_ir.specs.declared.block.End.TheVariants.{Goto, If, Switch, Return}
 use Rattle.gimple_ir.specs.declared.program.Function.{Function}
-use Rattle.gimple_ir.specs.declared.program.Program.{Program}
+use Rattle.gimple_core.specs.Sealed.{Sealed}
 use Rattle.gimple_core.specs.declared.machine.Extent.{Extent}
 use Rattle.gimple_core.specs.declared.machine.FoundSlot.{FoundSlot}
 use Rattle.gimple_core.specs.declared.machine.MemorySlot.{MemorySlot}
@@ -29,7 +29,7 @@ use Rattle.gimple_core.specs.State.{Frame, World, State, Scope, scope_of}
 use Rattle.gimple_core.specs.Run.{Moves, Stops, Traps, Did, Goes, Reaches, Calling, call_of, act, acted, arith_of, value_result, assign_result, loaded, stored, performed, resumed, stepped, finish, jump, jumped, returned, enter, entered, block_at, function_named, main_name, begun, begun_by}
 use Rattle.gimple_core.specs.Declarations.{has_blocks}
 use Rattle.gimple_core.proofs.ProgramTyped.{accepted_typed}
-use Rattle.gimple_claims.specs.Exits.{ToLabel, exit_of}
+use Rattle.gimple_core.specs.Run.{ToLabel, exit_of}
 use Rattle.gimple_claims.specs.Checks.{FoundCallee, NothingLost, AbortsOfAbort, RunsBegin}
 use Rattle.gimple_claims.proofs.Checked.{functions_are_checked}
 use Rattle.gimple_claims.proofs.Lost.{nothing_is_lost}
@@ -164,30 +164,30 @@ returned_goes : (s : State) (v : Option Value) (fs : List Frame) → Aborts (Rea
 returned_goes s v [] h = h
 returned_goes s v (f ∷ fs) h = h
 
-jump_goes : (p : Program) (s : State) (label : ℕ) → NothingLost p s → s.top.rest ≡ [] → exit_of p.globals s.top.end s ≡ ToLabel label → Aborts (Reaches (jump s label)) → ⊥
+jump_goes : (p : Sealed) (s : State) (label : ℕ) → NothingLost p s → s.top.rest ≡ [] → exit_of p.program.globals s.top.end s ≡ ToLabel label → Aborts (Reaches (jump s label)) → ⊥
 jump_goes p s label lost e x h = let there = lost.jumps label e x in jumped_goes s _ (block_at label s.top.function.blocks) there.0 there.1 h
 
-finish_goes : (p : Program) (s : State) → NothingLost p s → s.top.rest ≡ [] → (z : End) → s.top.end ≡ z → Aborts (Reaches (finish p.globals z s)) → ⊥
-finish_goes p s lost e (Goto label) f h = jump_goes p s label lost e (ap (λ z. exit_of p.globals z s) f) h
-finish_goes p s lost e (If x cmp y this that) f h = jump_goes p s _ lost e (ap (λ z. exit_of p.globals z s) f) h
-finish_goes p s lost e (Switch on cases other) f h = jump_goes p s _ lost e (ap (λ z. exit_of p.globals z s) f) h
+finish_goes : (p : Sealed) (s : State) → NothingLost p s → s.top.rest ≡ [] → (z : End) → s.top.end ≡ z → Aborts (Reaches (finish p.program.globals z s)) → ⊥
+finish_goes p s lost e (Goto label) f h = jump_goes p s label lost e (ap (λ z. exit_of p.program.globals z s) f) h
+finish_goes p s lost e (If x cmp y this that) f h = jump_goes p s _ lost e (ap (λ z. exit_of p.program.globals z s) f) h
+finish_goes p s lost e (Switch on cases other) f h = jump_goes p s _ lost e (ap (λ z. exit_of p.program.globals z s) f) h
 finish_goes p s lost e (Return operand) f h = returned_goes s _ s.below h
 
-entered_goes : (p : Program) (s : State) (takes : Option (List ℕ)) (vs : List Value) (g : Function) (bs : List Block) (b : Block) (cs : List Block) → bs ≡ b ∷ cs → Aborts (Reaches (entered p.structs s takes vs g bs)) → ⊥
+entered_goes : (p : Sealed) (s : State) (takes : Option (List ℕ)) (vs : List Value) (g : Function) (bs : List Block) (b : Block) (cs : List Block) → bs ≡ b ∷ cs → Aborts (Reaches (entered p.program.structs s takes vs g bs)) → ⊥
 entered_goes p s takes vs g [] b cs e h = cc
 entered_goes p s takes vs g (c ∷ ds) b cs e h = h
 
-enter_goes : (p : Program) (s : State) (takes : Option (List ℕ)) (vs : List Value) (o : Option Function) (g : Function) (b : Block) (cs : List Block) → o ≡ Some g → g.blocks ≡ b ∷ cs → Aborts (Reaches (enter p.structs s takes vs o)) → ⊥
+enter_goes : (p : Sealed) (s : State) (takes : Option (List ℕ)) (vs : List Value) (o : Option Function) (g : Function) (b : Block) (cs : List Block) → o ≡ Some g → g.blocks ≡ b ∷ cs → Aborts (Reaches (enter p.program.structs s takes vs o)) → ⊥
 enter_goes p s takes vs None g b cs e f h = cc
 enter_goes p s takes vs (Some k) g b cs e f h = let same : k ≡ g = cc in entered_goes p s takes vs k k.blocks b cs (ap (λ (z : Function). z.blocks) same ∙ f) h
 
-performed_aborts : (p : Program) (s : State) (x : Stmt) (xs : List Stmt) → NothingLost p s → s.top.rest ≡ x ∷ xs → (o : Option Calling) → call_of x ≡ o → Aborts (performed p o x (resumed s xs)) → x ≡ Abort
-performed_aborts p s x xs lost e None n h = act_aborts p.globals (scope_of s.top) x s.world n (acted_aborts (resumed s xs) (act p.globals (scope_of s.top) x s.world) h)
+performed_aborts : (p : Sealed) (s : State) (x : Stmt) (xs : List Stmt) → NothingLost p s → s.top.rest ≡ x ∷ xs → (o : Option Calling) → call_of x ≡ o → Aborts (performed p o x (resumed s xs)) → x ≡ Abort
+performed_aborts p s x xs lost e None n h = act_aborts p.program.globals (scope_of s.top) x s.world n (acted_aborts (resumed s xs) (act (setting_of p) (scope_of s.top) x s.world) h)
 performed_aborts p s x xs lost e (Some c) n h =
     let there : FoundCallee p c.callee = lost.calls x xs c e n in
-    absurd (enter_goes p (resumed s xs) c.to _ (function_named c.callee p.functions) there.function there.first there.others there.found there.blocks h)
+    absurd (enter_goes p (resumed s xs) c.to _ (function_named c.callee p.program.functions) there.function there.first there.others there.found there.blocks h)
 
-stepped_aborts : (p : Program) (s : State) (xs : List Stmt) → NothingLost p s → s.top.rest ≡ xs → Aborts (stepped p s xs) → (ys : List Stmt) × (xs ≡ Abort ∷ ys)
+stepped_aborts : (p : Sealed) (s : State) (xs : List Stmt) → NothingLost p s → s.top.rest ≡ xs → Aborts (stepped p s xs) → (ys : List Stmt) × (xs ≡ Abort ∷ ys)
 stepped_aborts p s [] lost e h = absurd (finish_goes p s lost e s.top.end refl h)
 stepped_aborts p s (x ∷ xs) lost e h = (xs, ap (λ y. y ∷ xs) (performed_aborts p s x xs lost e (call_of x) refl h))
 
@@ -196,7 +196,7 @@ aborts_of_abort p accepted input past s output c e = stepped_aborts p s s.top.re
 
 -- ---- the start
 
-begins_with : (p : Program) (input : List ℤ) (f : Function) (bs : List Block) → has_blocks bs ≡ true → (s : State) × (begun p input f bs ≡ Some s)
+begins_with : (p : Sealed) (input : List ℤ) (f : Function) (bs : List Block) → has_blocks bs ≡ true → (s : State) × (begun p.program input f bs ≡ Some s)
 begins_with p input f [] h = cc
 begins_with p input f (b ∷ bs) h = (_, refl)
 
@@ -204,4 +204,4 @@ pub runs_begin : RunsBegin
 runs_begin p accepted input =
     let main = (accepted_typed p accepted).0 in
     let first = begins_with p input main.0 main.0.blocks (functions_are_checked p accepted main_name main.0 main.1).some in
-    (first.0, ap (begun_by p input) main.1 ∙ first.1)
+    (first.0, ap (begun_by p.program input) main.1 ∙ first.1)

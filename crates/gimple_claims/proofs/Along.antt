@@ -1,6 +1,6 @@
 -- Relations between two runs that speak of what has happened in both.
 use Rattle.std.proofs.Common.{◌≡◌, ℕ, ℤ, List, [], ◌∷◌, refl, sym, subst, Option, Some, None}
-use Rattle.gimple_ir.specs.declared.program.Program.{Program}
+use Rattle.gimple_core.specs.Sealed.{Sealed}
 use Rattle.gimple_ir.specs.declared.statement.Stmt.{Stmt}
 use Rattle.gimple_core.specs.State.{State}
 use Rattle.gimple_core.specs.Run.{Reached, Moves, Stops, Traps, Did, Goes, Reaches, Transfer, perform, finish, resumed, stepped, step, start, then_walk, walk, runs_from, Run}
@@ -12,25 +12,25 @@ use Rattle.gimple_claims.proofs.Comes.{InDid, InReached, Comes, begins, goes, mo
 -- ---- one step for one
 
 -- related states after these events of both runs
-pub record Along (p q : Program) (input : List ℤ) (R : List Event → List Event → State → State → Type 0) (s t : State) : Type 0 where
+pub record Along (p q : Sealed) (input : List ℤ) (R : List Event → List Event → State → State → Type 0) (s t : State) : Type 0 where
   pub past : List Event
   pub hist : List Event
   pub comes : Comes p input past s
   pub arrives : Comes q input hist t
   pub related : R past hist s t
 
-pub record StepsAlike (p q : Program) (input : List ℤ) (R : List Event → List Event → State → State → Type 0) : Type 0 where
+pub record StepsAlike (p q : Sealed) (input : List ℤ) (R : List Event → List Event → State → State → Type 0) : Type 0 where
   pub output : (past hist : List Event) (s t : State) → R past hist s t → s.world.output ≡ t.world.output
   pub steps : (past hist : List Event) (s t : State) → Comes p input past s → Comes q input hist t → R past hist s t → Does (R (after past (told p s)) (after hist (told q t))) (step p s) (step q t)
 
 -- the two begin in related states, or neither begins
-abbrev pub StartAlike : Program → Program → (List Event → List Event → State → State → Type 0) → Option State → Option State → Type 0
+abbrev pub StartAlike : Sealed → Sealed → (List Event → List Event → State → State → Type 0) → Option State → Option State → Type 0
 StartAlike p q R None None = Unit {0}
 StartAlike p q R None (Some t) = ⊥
 StartAlike p q R (Some s) None = ⊥
 StartAlike p q R (Some s) (Some t) = R (main_entry p s ∷ []) (main_entry q t ∷ []) s t
 
-module _ (p q : Program) (input : List ℤ) (R : List Event → List Event → State → State → Type 0) (alike : StepsAlike p q input R) where
+module _ (p q : Sealed) (input : List ℤ) (R : List Event → List Event → State → State → Type 0) (alike : StepsAlike p q input R) where
   matches_along : (past hist : List Event) (a b : Reached) → Matches (R past hist) a b → InReached (Comes p input past) a → InReached (Comes q input hist) b → Matches (Along p q input R) a b
   matches_along past hist (Moves k s) (Moves j t) m c d = record { past = past; hist = hist; comes = c; arrives = d; related = m }
   matches_along past hist (Moves k s) (Stops o z) m c d = absurd m
@@ -48,7 +48,7 @@ module _ (p q : Program) (input : List ℤ) (R : List Event → List Event → S
   does_along past hist (Reaches a) (Goes t) m c d = absurd m
   does_along past hist (Reaches a) (Reaches b) m c d = matches_along past hist a b m c d
 
-  comes_next : (r : Program) (past : List Event) (s : State) → Comes r input past s → (d : Did) → step r s ≡ d → InDid (Comes r input (after past (told r s))) d
+  comes_next : (r : Sealed) (past : List Event) (s : State) → Comes r input past s → (d : Did) → step r s ≡ d → InDid (Comes r input (after past (told r s))) d
   comes_next r past s c (Goes t) e = goes past s t c e
   comes_next r past s c (Reaches (Moves k t)) e = moves past k s t c e
   comes_next r past s c (Reaches (Stops o z)) e = tt
@@ -72,7 +72,7 @@ module _ (p q : Program) (input : List ℤ) (R : List Event → List Event → S
   unfolding walk
   walk_along [] s t a e =
       subst (Matches (Along p q input R) (walk p [] s)) (sym (walk_step q t.top.rest t))
-      (end_along (finish p.globals s.top.end s) (step q t) (subst (λ ys. Does (Along p q input R) (stepped p s ys) (step q t)) e (steps_along s t a)))
+      (end_along (finish p.program.globals s.top.end s) (step q t) (subst (λ ys. Does (Along p q input R) (stepped p s ys) (step q t)) e (steps_along s t a)))
   walk_along (x ∷ xs) s t a e =
       subst (Matches (Along p q input R) (walk p (x ∷ xs) s)) (sym (walk_step q t.top.rest t))
       (did_along xs (perform p x (resumed s xs)) (step q t) (subst (λ ys. Does (Along p q input R) (stepped p s ys) (step q t)) e (steps_along s t a)) (perform_rest p x (resumed s xs)) (walk_along xs))
@@ -126,18 +126,18 @@ module _ (p q : Program) (input : List ℤ) (R : List Event → List Event → S
 
 -- ---- some statements for one
 
-pub record WithPast (p : Program) (input : List ℤ) (R : List Event → State → State → Type 0) (s t : State) : Type 0 where
+pub record WithPast (p : Sealed) (input : List ℤ) (R : List Event → State → State → Type 0) (s t : State) : Type 0 where
   pub past : List Event
   pub comes : Comes p input past s
   pub related : R past s t
 
-pub record FollowsAlong (p q : Program) (input : List ℤ) (R : List Event → State → State → Type 0) : Type 0 where
+pub record FollowsAlong (p q : Sealed) (input : List ℤ) (R : List Event → State → State → Type 0) : Type 0 where
   pub output : (past : List Event) (s t : State) → R past s t → s.world.output ≡ t.world.output
   pub stmt : (past : List Event) (s t : State) (x : Stmt) (xs : List Stmt) → Comes p input past s → R past s t → s.top.rest ≡ x ∷ xs → Stands p q (R (after past (told p s))) s x xs t
   pub last : (past : List Event) (s t : State) → Comes p input past s → R past s t → s.top.rest ≡ [] → t.top.rest ≡ []
-  pub end : (past : List Event) (s t : State) → Comes p input past s → R past s t → s.top.rest ≡ [] → Matches (R (after past (told p s))) (finish p.globals s.top.end s) (finish q.globals t.top.end t)
+  pub end : (past : List Event) (s t : State) → Comes p input past s → R past s t → s.top.rest ≡ [] → Matches (R (after past (told p s))) (finish p.program.globals s.top.end s) (finish q.program.globals t.top.end t)
 
-module _ (p q : Program) (input : List ℤ) (R : List Event → State → State → Type 0) where
+module _ (p q : Sealed) (input : List ℤ) (R : List Event → State → State → Type 0) where
   matches_past : (past : List Event) (a b : Reached) → Matches (R past) a b → InReached (Comes p input past) a → Matches (WithPast p input R) a b
   matches_past past (Moves k s) (Moves j t) m c = record { past = past; comes = c; related = m }
   matches_past past (Moves k s) (Stops o z) m c = absurd m

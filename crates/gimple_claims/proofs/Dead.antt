@@ -4,17 +4,17 @@ use Rattle.std.specs.List.{find, list_any}
 use Rattle.std.proofs.lemmas.Bool.{eqb-true}
 use Rattle.gimple_ir.specs.declared.value.Object.{Object}
 use Rattle.gimple_ir.specs.declared.value.Object.TheVariants.{Global, Local}
-use Rattle.gimple_ir.specs.declared.program.Program.{Program}
+use Rattle.gimple_core.specs.Sealed.{Sealed}
 use Rattle.gimple_core.specs.declared.machine.Extent.{Extent}
 use Rattle.gimple_core.specs.Memory.{Memory, same_object, is_elsewhere, without_frame}
-use Rattle.gimple_core.specs.State.{Frame, World, State, scope_of}
+use Rattle.gimple_core.specs.State.{Frame, World, State, scope_of, setting_of}
 use Rattle.gimple_core.specs.Run.{Did, step}
 use Rattle.gimple_core.specs.Trace.{Event}
 use Rattle.gimple_claims.specs.Runs.{Comes, Leads, none, goes_on, moves_on}
 use Rattle.gimple_claims.specs.Stack.{serials}
-use Rattle.gimple_claims.specs.Laws.{OlderFrames, Older, lives_in, living_object, DeadStayDead}
+use Rattle.gimple_claims.specs.Laws.{Older, lives_in, living_object, DeadStayDead}
 use Rattle.gimple_claims.proofs.Comes.{InDid}
-use Rattle.gimple_claims.proofs.Steps.{Steps, acts, calls, jumps, leaves, stops, traps, step_is, older}
+use Rattle.gimple_claims.proofs.Steps.{OlderFrames, Steps, acts, calls, jumps, leaves, stops, traps, step_is, older}
 use Rattle.gimple_claims.proofs.Acts.{Acts, assigns, takes, prints, stores, acts_is}
 use Rattle.gimple_claims.proofs.Lists.{found_test, found_has}
 use Rattle.gimple_claims.proofs.Locals.{locals_find}
@@ -22,7 +22,7 @@ use Rattle.gimple_claims.proofs.Globals.{same_object_true}
 use Rattle.gimple_claims.proofs.Living.{living_are_of_frames}
 
 -- what each step keeps holds in all states that come later
-leads_to : (p : Program) (I : State → Type 0) → ((s : State) → I s → InDid I (step p s)) → (s t : State) → Leads p s t → I s → I t
+leads_to : (p : Sealed) (I : State → Type 0) → ((s : State) → I s → InDid I (step p s)) → (s t : State) → Leads p s t → I s → I t
 leads_to p I keep s _ none h = h
 leads_to p I keep s _ (goes_on t u l e) h = subst (InDid I) e (keep t (leads_to p I keep s t l h))
 leads_to p I keep s _ (moves_on k t u l e) h = subst (InDid I) e (keep t (leads_to p I keep s t l h))
@@ -59,9 +59,9 @@ older_below n serial (f ∷ fs) h e = by (f.control.serial == serial) refl e h.0
 
 begun_by : (past : List Event) (s : State) (o : Object) → Older past s → lives_in (serials s) o ≡ true → Begun s.next o
 begun_by past s (Global k) h e = tt
-begun_by past s (Local serial k) h e = older_below s.next serial (record { control = s.top; cells = s.world.cells } ∷ s.below) (h.top, h.below) e
+begun_by past s (Local serial k) h e = older_below s.next serial (record { control = s.top; registers = s.world.registers } ∷ s.below) (h.top, h.below) e
 
-begun : (p : Program) (input : List ℤ) (past : List Event) (s : State) (o : Object) (x : Extent) → Comes p input past s → living_object o s.world.memory ≡ Some x → Begun s.next o
+begun : (p : Sealed) (input : List ℤ) (past : List Event) (s : State) (o : Object) (x : Extent) → Comes p input past s → living_object o s.world.memory ≡ Some x → Begun s.next o
 begun p input past s o x c e =
     let own : x.object ≡ o = same_object_true x.object o (found_test (λ (y : Extent). same_object y.object o) s.world.memory.living x e) in
     let there : lives_in (serials s) x.object ≡ true = found_has (λ (y : Extent). lives_in (serials s) y.object) (λ (y : Extent). same_object y.object o) s.world.memory.living x (living_are_of_frames p input past s c) e in
@@ -96,21 +96,21 @@ module _ (object : Object) where
   unfolding without_frame
   returned_dead serial m h = none_filtered test (λ x. is_elsewhere serial x.object) m.living h
 
-  dead_did : (p : Program) (s : State) → IsDead s → (d : Did) → Steps p s d → InDid IsDead d
-  dead_did p s h _ (acts x xs w e n r) = record { dead = acted_dead s.world w (acts_is p.globals (scope_of s.top) x s.world w r) h.dead; from = h.from }
+  dead_did : (p : Sealed) (s : State) → IsDead s → (d : Did) → Steps p s d → InDid IsDead d
+  dead_did p s h _ (acts x xs w e n r) = record { dead = acted_dead s.world w (acts_is (setting_of p) (scope_of s.top) x s.world w r) h.dead; from = h.from }
   dead_did p s h _ (calls x xs c g b bs e n f y) = record {
-    dead = locals_find (λ o. same_object o object) p.structs s.next 0 g.locals s.world.memory (λ k. not_new s.next object k h.from) ∙ h.dead;
+    dead = locals_find (λ o. same_object o object) p.program.structs s.next 0 g.locals s.world.memory (λ k. not_new s.next object k h.from) ∙ h.dead;
     from = begun_more s.next (s.next + 1) object (omega arith) h.from;
   }
-  dead_did p s h _ (jumps label b e x f) = record { dead = h.dead; from = h.from }
+  dead_did p s h _ (jumps label k b e x f) = record { dead = h.dead; from = h.from }
   dead_did p s h _ (leaves v f fs e x y) = record { dead = returned_dead s.top.serial s.world.memory h.dead; from = h.from }
   dead_did p s h _ (stops o z) = tt
   dead_did p s h _ (traps o k) = tt
 
-  from_did : (p : Program) (s : State) → Begun s.next object → (d : Did) → Steps p s d → InDid (λ t. Begun t.next object) d
+  from_did : (p : Sealed) (s : State) → Begun s.next object → (d : Did) → Steps p s d → InDid (λ t. Begun t.next object) d
   from_did p s h _ (acts x xs w e n r) = h
   from_did p s h _ (calls x xs c g b bs e n f y) = begun_more s.next (s.next + 1) object (omega arith) h
-  from_did p s h _ (jumps label b e x f) = h
+  from_did p s h _ (jumps label k b e x f) = h
   from_did p s h _ (leaves v f fs e x y) = h
   from_did p s h _ (stops o z) = tt
   from_did p s h _ (traps o k) = tt

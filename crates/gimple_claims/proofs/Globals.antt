@@ -13,14 +13,14 @@ use Rattle.gimple_ir.specs.declared.value.Object.{Object}
 use Rattle.gimple_ir.specs.declared.value.Object.TheVariants.{Global, Local}
 use Rattle.gimple_ir.specs.declared.block.Block.{Block}
 use Rattle.gimple_ir.specs.declared.program.Function.{Function}
-use Rattle.gimple_ir.specs.declared.program.Program.{Program}
+use Rattle.gimple_core.specs.Sealed.{Sealed}
 use Rattle.gimple_core.specs.declared.machine.Extent.{Extent}
 use Rattle.gimple_core.specs.declared.machine.MemorySlot.{MemorySlot}
 use Rattle.gimple_core.specs.declared.machine.FoundSlot.{FoundSlot}
 use Rattle.gimple_core.specs.Layout.{layout_of}
 use Rattle.gimple_core.specs.Memory.{Memory, same_object, same_scalar, is_slot, is_elsewhere, without_frame, put_slot}
-use Rattle.gimple_core.specs.State.{World, State, scope_of, zero_of}
-use Rattle.gimple_core.specs.Run.{Did, step, filled, item_value, with_object, with_globals, with_locals, no_memory, function_named, main_name, begun, begun_by}
+use Rattle.gimple_core.specs.State.{World, State, scope_of, setting_of, zero_of}
+use Rattle.gimple_core.specs.Run.{Did, step, filled, item_value, with_object, with_globals, with_locals, no_memory, first_memory, function_named, main_name, begun, begun_by}
 use Rattle.gimple_core.specs.Trace.{Event, told, after}
 use Rattle.gimple_core.proofs.Dropping.{first_kept}
 use Rattle.gimple_claims.specs.Laws.{slots_of, HoldsGlobal, GlobalsHold}
@@ -155,17 +155,17 @@ module _ (k : ℕ) where
 
   -- ---- the whole run
 
-  module _ (p : Program) (g : GlobalDef) (there : slice_get p.globals k ≡ Some g) where
+  module _ (p : Sealed) (g : GlobalDef) (there : slice_get p.program.globals k ≡ Some g) where
     abbrev Held : List Event → State → Type 0
-    Held past s = HoldsGlobal p k g s.world.memory
+    Held past s = HoldsGlobal p.program k g s.world.memory
 
-    entered_held : (serial : ℕ) (f : Function) (m : Memory) → HoldsGlobal p k g m → HoldsGlobal p k g (with_locals p.structs serial 0 f.locals m)
+    entered_held : (serial : ℕ) (f : Function) (m : Memory) → HoldsGlobal p.program k g m → HoldsGlobal p.program k g (with_locals p.program.structs serial 0 f.locals m)
     entered_held serial f m h = record {
-      lives = locals_find test p.structs serial 0 f.locals m (λ j. refl) ∙ h.lives;
-      items = λ c. locals_slots test p.structs serial 0 f.locals m (λ j. refl) ∙ h.items c;
+      lives = locals_find test p.program.structs serial 0 f.locals m (λ j. refl) ∙ h.lives;
+      items = λ c. locals_slots test p.program.structs serial 0 f.locals m (λ j. refl) ∙ h.items c;
     }
 
-    returned_held : (serial : ℕ) (m : Memory) → HoldsGlobal p k g m → HoldsGlobal p k g (without_frame serial m)
+    returned_held : (serial : ℕ) (m : Memory) → HoldsGlobal p.program k g m → HoldsGlobal p.program k g (without_frame serial m)
     unfolding without_frame
     returned_held serial m h = record {
       lives = first_kept (λ (x : Extent). test x.object) (λ (x : Extent). is_elsewhere serial x.object) (λ x e. global_elsewhere serial x.object e) m.living ∙ h.lives;
@@ -174,13 +174,13 @@ module _ (k : ℕ) where
 
     held_did : (past : List Event) (s : State) → Held past s → (d : Did) → Steps p s d → InDid (Held (after past (told p s))) d
     held_did past s h _ (acts x xs w e n r) =
-        let a : Acts s.world w = acts_is p.globals (scope_of s.top) x s.world w r in
+        let a : Acts s.world w = acts_is (setting_of p) (scope_of s.top) x s.world w r in
         record {
           lives = ap (find (λ (y : Extent). test y.object)) (acted_living s.world w a) ∙ h.lives;
           items = λ c. acted_slots s.world w _ h.lives c a ∙ h.items c;
         }
     held_did past s h _ (calls x xs c f b bs e n o y) = entered_held s.next f s.world.memory h
-    held_did past s h _ (jumps label b e x f) = h
+    held_did past s h _ (jumps label k b e x f) = h
     held_did past s h _ (leaves v f fs e x y) = returned_held s.top.serial s.world.memory h
     held_did past s h _ (stops o z) = tt
     held_did past s h _ (traps o j) = tt
@@ -189,19 +189,19 @@ module _ (k : ℕ) where
     HeldFirst None = Unit {0}
     HeldFirst (Some s) = Held [] s
 
-    begun_held : (input : List ℤ) (f : Function) (bs : List Block) → HeldFirst (begun p input f bs)
+    begun_held : (input : List ℤ) (f : Function) (bs : List Block) → HeldFirst (begun p.program input f bs)
     begun_held input f [] = tt
     begun_held input f (b ∷ bs) =
-        let m : Made p.structs p.globals g (with_globals p.structs p.globals 0 p.globals no_memory) = made_at p.structs p.globals k 0 p.globals g no_memory there (omega arith) refl refl in
-        entered_held 0 f (with_globals p.structs p.globals 0 p.globals no_memory) (record { lives = m.lives; items = λ c. m.slots })
+        let m : Made p.program.structs p.program.globals g (first_memory p.program) = made_at p.program.structs p.program.globals k 0 p.program.globals g no_memory there (omega arith) refl refl in
+        entered_held 0 f (first_memory p.program) (record { lives = m.lives; items = λ c. m.slots })
 
-    start_held : (input : List ℤ) (o : Option Function) → HeldFirst (begun_by p input o)
+    start_held : (input : List ℤ) (o : Option Function) → HeldFirst (begun_by p.program input o)
     start_held input None = tt
     start_held input (Some f) = begun_held input f f.blocks
 
 pub globals_hold : GlobalsHold
 globals_hold p input past s c k g there =
     holds p input (Held k p g there) (record {
-      begin = λ t e. subst (HeldFirst k p g there) e (start_held k p g there input (function_named main_name p.functions));
+      begin = λ t e. subst (HeldFirst k p g there) e (start_held k p g there input (function_named main_name p.program.functions));
       keep = λ past t h. held_did k p g there past t h (step p t) (step_is p t);
     }) past s c

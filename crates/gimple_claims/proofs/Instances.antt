@@ -7,23 +7,23 @@ use Rattle.gimple_ir.specs.declared.value.Value.{Value}
 use Rattle.gimple_ir.specs.declared.block.Block.{Block}
 use Rattle.gimple_ir.specs.declared.declarations.Global.{Global}
 use Rattle.gimple_ir.specs.declared.program.Function.{Function}
-use Rattle.gimple_ir.specs.declared.program.Program.{Program}
+use Rattle.gimple_core.specs.Sealed.{Sealed}
 use Rattle.gimple_ir.specs.declared.value.TrapKind.{TrapKind}
 use Rattle.gimple_core.specs.Memory.{without_frame}
 use Rattle.gimple_core.specs.State.{Control, Frame, World, State, Scope, scope_of}
 use Rattle.gimple_core.specs.Run.{step, stepped, start, compares, case_for, any_number, value_of, given, cells_made, with_locals, with_globals, no_memory, control_made, Calling, call_of, Reaches, Reached, Moves, CallEntry, performed, act, acted, resumed, finish, jump, jumped, block_at, block_place, place_or, returned, entered, enter, values_of, function_named, main_name, begun, begun_by, Run}
 use Rattle.gimple_core.specs.Trace.{Event, main_entry, told, after}
 use Rattle.gimple_claims.specs.Runs.{Comes}
-use Rattle.gimple_claims.specs.Exits.{Exit, ToLabel, Returns, exit_of}
+use Rattle.gimple_core.specs.Run.{Exit, ToLabel, Returns, exit_of}
 use Rattle.gimple_claims.specs.Kept.{new_body}
 use Rattle.gimple_claims.specs.Instances.{Instances, instance, AreMade, BeginAlike, CalleesAlike, StandsFor, MainsAlike, Specialises}
 use Rattle.gimple_claims.proofs.Activation.{own_name}
 use Rattle.gimple_claims.proofs.Along.{StepsAlike, StartAlike, run_alike, Beside, beside}
 use Rattle.gimple_core.proofs.Simulation.{Matches, Does}
 
-module _ (I : Instances) (Fits : List Event → ℕ → ℕ → Type 0) (p : Program) (gs : List Function) (input : List ℤ) (spec : Specialises I Fits p gs input) where
-  abbrev pub made : Program
-  made = record p { functions = gs }
+module _ (I : Instances) (Fits : List Event → ℕ → ℕ → Type 0) (p : Sealed) (gs : List Function) (input : List ℤ) (spec : Specialises I Fits p gs input) where
+  abbrev pub made : Sealed
+  made = record p { program = record p.program { functions = gs } }
 
   pub record AlikeControl (past : List Event) (n : ℕ) (c d : Control) : Type 0 where
     pub number : ℕ
@@ -77,37 +77,37 @@ module _ (I : Instances) (Fits : List Event → ℕ → ℕ → Type 0) (p : Pro
   acted_alike past hist now later s t xs ys (Err kind) c b k = (output_same past hist s t k, refl)
 
   entered_alike : (past hist now later : List Event) (s t : State) (xs ys : List Stmt) (to : Option (List ℕ)) (vs : List Value) (j : ℕ) (bs cs : List Block) → Alike past hist s t → AlikeControl now (s.next + 1) (resumed s xs).top (resumed t ys).top → AlikeFrames now (s.next + 1) s.below t.below →
-      BeginAlike I j bs cs → ((u : State) → entered p.structs (resumed s xs) to vs (I.source j) bs ≡ Moves CallEntry u → Fits now s.next j) → Matches (Alike now later) (entered p.structs (resumed s xs) to vs (I.source j) bs) (entered p.structs (resumed t ys) to vs (instance I j) cs)
+      BeginAlike I j bs cs → ((u : State) → entered p.program.structs (resumed s xs) to vs (I.source j) bs ≡ Moves CallEntry u → Fits now s.next j) → Matches (Alike now later) (entered p.program.structs (resumed s xs) to vs (I.source j) bs) (entered p.program.structs (resumed t ys) to vs (instance I j) cs)
   entered_alike past hist now later s t xs ys to vs j [] [] k c b e fits = (output_same past hist s t k, refl)
   entered_alike past hist now later s t xs ys to vs j [] (y ∷ zs) k c b e fits = absurd e
   entered_alike past hist now later s t xs ys to vs j (x ∷ ws) [] k c b e fits = absurd e
   entered_alike past hist now later s t xs ys to vs j (x ∷ ws) (y ∷ zs) k c b e fits = record {
     top = record { number = j; source = refl; function = refl; rest = e.body; end = e.end; serial = k.next; takes = refl; fits = fits _ refl; older = omega arith };
-    below = (c, ap (λ (w : World). w.cells) k.world, b);
-    world = λ i. record (k.world i) { cells = cells_made (I.source j).params vs 0 ++ cells_made (I.source j).registers [] 0; memory = with_locals p.structs (k.next i) 0 (I.source j).locals (k.world i).memory };
+    below = (c, ap (λ (w : World). w.registers) k.world, b);
+    world = λ i. record (k.world i) { cells = cells_made (I.source j).params vs 0 ++ cells_made (I.source j).registers [] 0; memory = with_locals p.program.structs (k.next i) 0 (I.source j).locals (k.world i).memory };
     next = λ i. k.next i + 1;
   }
 
   enter_alike : (past hist later : List Event) (s t : State) (xs ys : List Stmt) (c d : Calling) (vs : List Value) (o r : Option Function) → Comes p input past s → Alike past hist s t → AlikeControl (after past (told p s)) (s.next + 1) (resumed s xs).top (resumed t ys).top →
-      AlikeFrames (after past (told p s)) (s.next + 1) s.below t.below → function_named c.callee p.functions ≡ o → function_named d.callee gs ≡ r → CalleesAlike I Fits p made past s c d o → step p s ≡ Reaches (enter p.structs (resumed s xs) c.to vs o) →
-      Matches (Alike (after past (told p s)) later) (enter p.structs (resumed s xs) c.to vs o) (enter p.structs (resumed t ys) c.to vs r)
+      AlikeFrames (after past (told p s)) (s.next + 1) s.below t.below → function_named c.callee p.program.functions ≡ o → function_named d.callee gs ≡ r → CalleesAlike I Fits p made past s c d o → step p s ≡ Reaches (enter p.program.structs (resumed s xs) c.to vs o) →
+      Matches (Alike (after past (told p s)) later) (enter p.program.structs (resumed s xs) c.to vs o) (enter p.program.structs (resumed t ys) c.to vs r)
   enter_alike past hist later s t xs ys c d vs None None comes k a b n m e st = (output_same past hist s t k, refl)
   enter_alike past hist later s t xs ys c d vs None (Some g) comes k a b n m e st = cc
   enter_alike past hist later s t xs ys c d vs (Some f) None comes k a b n m e st = let h = e.callee in cc
   enter_alike past hist later s t xs ys c d vs (Some f) (Some g) comes k a b n m e st =
-      let own : function_named (I.source e.number).name p.functions ≡ Some (I.source e.number) = subst (λ (h : Function). function_named h.name p.functions ≡ Some h) (sym e.source) (own_name c.callee p.functions f n) in
+      let own : function_named (I.source e.number).name p.program.functions ≡ Some (I.source e.number) = subst (λ (h : Function). function_named h.name p.program.functions ≡ Some h) (sym e.source) (own_name c.callee p.program.functions f n) in
       let callee : function_named d.callee gs ≡ Some (instance I e.number) = e.callee in
       let same : instance I e.number ≡ g = cc in
-      let there : step p s ≡ Reaches (entered p.structs (resumed s xs) c.to vs (I.source e.number) (I.source e.number).blocks) = subst (λ (h : Function). step p s ≡ Reaches (entered p.structs (resumed s xs) c.to vs h h.blocks)) (sym e.source) st in
-      subst (λ (h : Function). Matches (Alike (after past (told p s)) later) (entered p.structs (resumed s xs) c.to vs h h.blocks) (entered p.structs (resumed t ys) c.to vs g g.blocks)) e.source
-      (subst (λ (h : Function). Matches (Alike (after past (told p s)) later) (entered p.structs (resumed s xs) c.to vs (I.source e.number) (I.source e.number).blocks) (entered p.structs (resumed t ys) c.to vs h h.blocks)) same
+      let there : step p s ≡ Reaches (entered p.program.structs (resumed s xs) c.to vs (I.source e.number) (I.source e.number).blocks) = subst (λ (h : Function). step p s ≡ Reaches (entered p.program.structs (resumed s xs) c.to vs h h.blocks)) (sym e.source) st in
+      subst (λ (h : Function). Matches (Alike (after past (told p s)) later) (entered p.program.structs (resumed s xs) c.to vs h h.blocks) (entered p.program.structs (resumed t ys) c.to vs g g.blocks)) e.source
+      (subst (λ (h : Function). Matches (Alike (after past (told p s)) later) (entered p.program.structs (resumed s xs) c.to vs (I.source e.number) (I.source e.number).blocks) (entered p.program.structs (resumed t ys) c.to vs h h.blocks)) same
       (entered_alike past hist (after past (told p s)) later s t xs ys c.to vs e.number (I.source e.number).blocks (I.blocks e.number) k a b (spec.begin e.number own) (λ u x. e.fits u (there ∙ ap Reaches x))))
 
   performed_alike : (past hist later : List Event) (s t : State) (x y : Stmt) (xs ys : List Stmt) → Comes p input past s → (k : Alike past hist s t) → ys ≡ new_body (I.put k.top.number) s.top.block (s.top.index + 1) xs → StandsFor I Fits p made past s x y →
       (o r : Option Calling) → call_of x ≡ o → call_of y ≡ r → step p s ≡ performed p o x (resumed s xs) → Does (Alike (after past (told p s)) later) (performed p o x (resumed s xs)) (performed made r y (resumed t ys))
   performed_alike past hist later s t x y xs ys comes k e f None None a b st =
-      let same : act p.globals (scope_of t.top) y t.world ≡ act p.globals (scope_of s.top) x s.world = (λ i. act p.globals (scope_same past s.next s.top t.top k.top i) y (k.world i)) ∙ (f.act a).1 in
-      rw same (acted_alike past hist _ later s t xs ys (act p.globals (scope_of s.top) x s.world) (resumed_alike past hist s t x xs ys comes k e) (frames_on past s s.next s.below t.below comes (omega arith) k.below) k)
+      let same : act (setting_of p) (scope_of t.top) y t.world ≡ act (setting_of p) (scope_of s.top) x s.world = (λ i. act (setting_of p) (scope_same past s.next s.top t.top k.top i) y (k.world i)) ∙ (f.act a).1 in
+      rw same (acted_alike past hist _ later s t xs ys (act (setting_of p) (scope_of s.top) x s.world) (resumed_alike past hist s t x xs ys comes k e) (frames_on past s s.next s.below t.below comes (omega arith) k.below) k)
   performed_alike past hist later s t x y xs ys comes k e f None (Some d) a b st = let g = f.act a in let h = g.0 in cc
   performed_alike past hist later s t x y xs ys comes k e f (Some c) None a b st = let g = f.call c a in let h = g.1 in cc
   performed_alike past hist later s t x y xs ys comes k e f (Some c) (Some d) a b st =
@@ -115,14 +115,14 @@ module _ (I : Instances) (Fits : List Event → ℕ → ℕ → Type 0) (p : Pro
       let h = g.1 in
       let same : g.0 ≡ d = cc in
       let to : d.to ≡ c.to = ap (λ (z : Calling). z.to) (sym same) ∙ g.2 in
-      let values : values_of p.globals (scope_of t.top) t.world.cells d.arguments ≡ values_of p.globals (scope_of s.top) s.world.cells c.arguments =
-      (λ i. values_of p.globals (scope_same past s.next s.top t.top k.top i) (k.world i).cells d.arguments) ∙
-      (ap (λ (z : Calling). values_of p.globals (scope_of s.top) s.world.cells z.arguments) (sym same) ∙ g.3) in
-      let callees : CalleesAlike I Fits p made past s c d (function_named c.callee p.functions) = subst (λ z. CalleesAlike I Fits p made past s c z (function_named c.callee p.functions)) same g.4 in
+      let values : values_of p.program.globals (scope_of t.top) t.world.registers d.arguments ≡ values_of p.program.globals (scope_of s.top) s.world.registers c.arguments =
+      (λ i. values_of p.program.globals (scope_same past s.next s.top t.top k.top i) (k.world i).cells d.arguments) ∙
+      (ap (λ (z : Calling). values_of p.program.globals (scope_of s.top) s.world.registers z.arguments) (sym same) ∙ g.3) in
+      let callees : CalleesAlike I Fits p made past s c d (function_named c.callee p.program.functions) = subst (λ z. CalleesAlike I Fits p made past s c z (function_named c.callee p.program.functions)) same g.4 in
       let top : AlikeControl (after past (told p s)) s.next (resumed s xs).top (resumed t ys).top = resumed_alike past hist s t x xs ys comes k e in
       let old : s.top.serial < s.next = top.older in
       rw (values, to)
-      (enter_alike past hist later s t xs ys c d (values_of p.globals (scope_of s.top) s.world.cells c.arguments) (function_named c.callee p.functions) (function_named d.callee gs) comes k
+      (enter_alike past hist later s t xs ys c d (values_of p.program.globals (scope_of s.top) s.world.registers c.arguments) (function_named c.callee p.program.functions) (function_named d.callee gs) comes k
       (record { number = top.number; source = top.source; function = top.function; rest = top.rest; end = top.end; serial = top.serial; takes = top.takes; fits = top.fits; older = omega (arith, old) })
       (frames_on past s (s.next + 1) s.below t.below comes (omega arith) k.below) refl refl callees st)
 
@@ -162,10 +162,10 @@ module _ (I : Instances) (Fits : List Event → ℕ → ℕ → Type 0) (p : Pro
 
   abbrev exit_in : List Global → End → Scope → World → Exit
   exit_in globals (Goto label) scope w = ToLabel label
-  exit_in globals (If x cmp y this that) scope w = ToLabel (if compares (value_of globals scope w.cells x) cmp (value_of globals scope w.cells y) then this else that)
-  exit_in globals (Switch on cases other) scope w = ToLabel (case_for (any_number (value_of globals scope w.cells on)) cases other)
+  exit_in globals (If x cmp y this that) scope w = ToLabel (if compares (value_of globals scope w.registers x) cmp (value_of globals scope w.registers y) then this else that)
+  exit_in globals (Switch on cases other) scope w = ToLabel (case_for (any_number (value_of globals scope w.registers on)) cases other)
   exit_in globals (Return None) scope w = Returns None
-  exit_in globals (Return (Some o)) scope w = Returns (Some (value_of globals scope w.cells o))
+  exit_in globals (Return (Some o)) scope w = Returns (Some (value_of globals scope w.registers o))
 
   exit_is : (globals : List Global) (e : End) (s : State) → exit_of globals e s ≡ exit_in globals e (scope_of s.top) s.world
   exit_is globals (Goto label) s = refl
@@ -184,11 +184,11 @@ module _ (I : Instances) (Fits : List Event → ℕ → ℕ → Type 0) (p : Pro
       (jumped_alike past hist later s t _ _ _ _ comes k (e label refl))
   leaves_alike past hist later s t (Returns v) comes k e = returned_alike past hist later s t v s.below t.below comes k k.below
 
-  finish_alike : (past hist later : List Event) (s t : State) → Comes p input past s → Alike past hist s t → s.top.rest ≡ [] → Matches (Alike (after past (told p s)) later) (finish p.globals s.top.end s) (finish p.globals t.top.end t)
+  finish_alike : (past hist later : List Event) (s t : State) → Comes p input past s → Alike past hist s t → s.top.rest ≡ [] → Matches (Alike (after past (told p s)) later) (finish p.program.globals s.top.end s) (finish p.program.globals t.top.end t)
   finish_alike past hist later s t comes k e =
-      subst (λ (z : End). Matches (Alike (after past (told p s)) later) (finish p.globals s.top.end s) (finish p.globals z t)) (sym k.top.end)
-      (rw (finish_leaves p.globals s.top.end s, finish_leaves p.globals (I.end k.top.number s.top.block s.top.end) t, exit_same p.globals (I.end k.top.number s.top.block s.top.end) past hist s t k, spec.end past s k.top.number comes k.top.source k.top.fits e)
-      (leaves_alike past hist later s t (exit_of p.globals s.top.end s) comes k (λ label x. spec.jump past s label k.top.number comes k.top.source k.top.fits e x)))
+      subst (λ (z : End). Matches (Alike (after past (told p s)) later) (finish p.program.globals s.top.end s) (finish p.program.globals z t)) (sym k.top.end)
+      (rw (finish_leaves p.program.globals s.top.end s, finish_leaves p.program.globals (I.end k.top.number s.top.block s.top.end) t, exit_same p.program.globals (I.end k.top.number s.top.block s.top.end) past hist s t k, spec.end past s k.top.number comes k.top.source k.top.fits e)
+      (leaves_alike past hist later s t (exit_of p.program.globals s.top.end s) comes k (λ label x. spec.jump past s label k.top.number comes k.top.source k.top.fits e x)))
 
   -- ---- the step
 
@@ -208,7 +208,7 @@ module _ (I : Instances) (Fits : List Event → ℕ → ℕ → Type 0) (p : Pro
 
   -- ---- the start
 
-  begun_alike : (j : ℕ) (bs cs : List Block) → ((s : State) → Fits (main_entry p s ∷ []) 0 j) → BeginAlike I j bs cs → StartAlike p made Alike (begun p input (I.source j) bs) (begun made input (instance I j) cs)
+  begun_alike : (j : ℕ) (bs cs : List Block) → ((s : State) → Fits (main_entry p s ∷ []) 0 j) → BeginAlike I j bs cs → StartAlike p made Alike (begun p.program input (I.source j) bs) (begun made.program input (instance I j) cs)
   begun_alike j [] [] fits e = tt
   begun_alike j [] (c ∷ cs) fits e = absurd e
   begun_alike j (b ∷ bs) [] fits e = absurd e
@@ -216,7 +216,7 @@ module _ (I : Instances) (Fits : List Event → ℕ → ℕ → Type 0) (p : Pro
       let first : State = record {
         top = control_made (I.source j) b 0 None;
         below = [];
-        world = record { cells = cells_made (I.source j).params [] 0 ++ cells_made (I.source j).registers [] 0; memory = with_locals p.structs 0 0 (I.source j).locals (with_globals p.structs p.globals 0 p.globals no_memory); input = input; taken = 0; output = [] };
+        world = record { cells = cells_made (I.source j).params [] 0 ++ cells_made (I.source j).registers [] 0; memory = with_locals p.program.structs 0 0 (I.source j).locals (with_globals p.program.structs p.program.globals 0 p.program.globals no_memory); input = input; taken = 0; output = [] };
         next = 1;
       } in record {
         top = record { number = j; source = refl; function = refl; rest = e.body; end = e.end; serial = refl; takes = refl; fits = fits first; older = omega arith };
@@ -225,18 +225,18 @@ module _ (I : Instances) (Fits : List Event → ℕ → ℕ → Type 0) (p : Pro
         next = refl;
       }
 
-  begun_by_alike : (o r : Option Function) → function_named main_name p.functions ≡ o → MainsAlike I Fits (λ s. main_entry p s ∷ []) o r → StartAlike p made Alike (begun_by p input o) (begun_by made input r)
+  begun_by_alike : (o r : Option Function) → function_named main_name p.program.functions ≡ o → MainsAlike I Fits (λ s. main_entry p s ∷ []) o r → StartAlike p made Alike (begun_by p.program input o) (begun_by made.program input r)
   begun_by_alike None None e m = tt
   begun_by_alike None (Some g) e m = absurd m
   begun_by_alike (Some f) None e m = absurd m
   begun_by_alike (Some f) (Some g) e m =
-      let own : function_named (I.source m.0).name p.functions ≡ Some (I.source m.0) = subst (λ (h : Function). function_named h.name p.functions ≡ Some h) (sym m.1) (own_name main_name p.functions f e) in
-      subst (λ (h : Function). StartAlike p made Alike (begun p input h h.blocks) (begun made input g g.blocks)) m.1
-      (subst (λ (h : Function). StartAlike p made Alike (begun p input (I.source m.0) (I.source m.0).blocks) (begun made input h h.blocks)) (sym m.2)
+      let own : function_named (I.source m.0).name p.program.functions ≡ Some (I.source m.0) = subst (λ (h : Function). function_named h.name p.program.functions ≡ Some h) (sym m.1) (own_name main_name p.program.functions f e) in
+      subst (λ (h : Function). StartAlike p made Alike (begun p.program input h h.blocks) (begun made.program input g g.blocks)) m.1
+      (subst (λ (h : Function). StartAlike p made Alike (begun p.program input (I.source m.0) (I.source m.0).blocks) (begun made.program input h h.blocks)) (sym m.2)
       (begun_alike m.0 (I.source m.0).blocks (I.blocks m.0) m.3 (spec.begin m.0 own)))
 
   pub starts : StartAlike p made Alike (start p input) (start made input)
-  starts = begun_by_alike (function_named main_name p.functions) (function_named main_name gs) refl spec.mains
+  starts = begun_by_alike (function_named main_name p.program.functions) (function_named main_name gs) refl spec.mains
 
   pub instances_run : (n : ℕ) → Run p input n ≡ Run made input n
   instances_run n = run_alike p made input Alike alike n starts

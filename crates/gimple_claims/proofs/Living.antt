@@ -8,11 +8,11 @@ use Rattle.gimple_ir.specs.declared.block.Block.{Block}
 use Rattle.gimple_ir.specs.declared.value.Object.{Object}
 use Rattle.gimple_ir.specs.declared.value.Object.TheVariants.{Global as GlobalObject, Local}
 use Rattle.gimple_ir.specs.declared.program.Function.{Function}
-use Rattle.gimple_ir.specs.declared.program.Program.{Program}
+use Rattle.gimple_core.specs.Sealed.{Sealed}
 use Rattle.gimple_core.specs.declared.machine.Extent.{Extent}
 use Rattle.gimple_core.specs.Memory.{Memory, is_elsewhere, without_frame}
-use Rattle.gimple_core.specs.State.{Frame, World, State, scope_of}
-use Rattle.gimple_core.specs.Run.{Did, step, with_globals, with_locals, no_memory, function_named, main_name, begun, begun_by}
+use Rattle.gimple_core.specs.State.{Frame, World, State, scope_of, setting_of}
+use Rattle.gimple_core.specs.Run.{Did, step, with_globals, with_locals, no_memory, first_memory, function_named, main_name, begun, begun_by}
 use Rattle.gimple_core.specs.Trace.{Event, told, after}
 use Rattle.gimple_claims.specs.Stack.{serials}
 use Rattle.gimple_claims.specs.Laws.{lives_in, LivingAreOfFrames}
@@ -63,10 +63,10 @@ unfolding without_frame
 returned_living n ns m h =
     all_kept (λ (x : Extent). lives_in (n ∷ ns) x.object) (λ (x : Extent). lives_in ns x.object) (λ (x : Extent). is_elsewhere n x.object) (λ x e f. lives_less n ns x.object e f) m.living h
 
-living_did : (p : Program) (past : List Event) (s : State) → Living past s → (d : Did) → Steps p s d → InDid (Living (after past (told p s))) d
-living_did p past s h _ (acts x xs w e n r) = acted_living (serials s) s.world w (acts_is p.globals (scope_of s.top) x s.world w r) h
-living_did p past s h _ (calls x xs c g b bs e n f y) = entered_living p.structs s.next (serials s) g s.world.memory h
-living_did p past s h _ (jumps label b e x f) = h
+living_did : (p : Sealed) (past : List Event) (s : State) → Living past s → (d : Did) → Steps p s d → InDid (Living (after past (told p s))) d
+living_did p past s h _ (acts x xs w e n r) = acted_living (serials s) s.world w (acts_is (setting_of p) (scope_of s.top) x s.world w r) h
+living_did p past s h _ (calls x xs c g b bs e n f y) = entered_living p.program.structs s.next (serials s) g s.world.memory h
+living_did p past s h _ (jumps label k b e x f) = h
 living_did p past s h _ (leaves v f fs e x y) =
     returned_living s.top.serial (f.control.serial ∷ map (λ (r : Frame). r.control.serial) fs) s.world.memory
     (subst (λ rs. AllLive (s.top.serial ∷ map (λ (r : Frame). r.control.serial) rs) s.world.memory) y h)
@@ -83,17 +83,17 @@ abbrev LivesFirst : Option State → Type 0
 LivesFirst None = Unit {0}
 LivesFirst (Some s) = Living [] s
 
-begun_living : (p : Program) (input : List ℤ) (f : Function) (bs : List Block) → LivesFirst (begun p input f bs)
+begun_living : (p : Sealed) (input : List ℤ) (f : Function) (bs : List Block) → LivesFirst (begun p.program input f bs)
 begun_living p input f [] = tt
-begun_living p input f (b ∷ bs) = entered_living p.structs 0 [] f (with_globals p.structs p.globals 0 p.globals no_memory) (globals_living p.structs p.globals 0 p.globals no_memory [] refl)
+begun_living p input f (b ∷ bs) = entered_living p.program.structs 0 [] f (first_memory p.program) (globals_living p.program.structs p.program.globals 0 p.program.globals no_memory [] refl)
 
-start_living : (p : Program) (input : List ℤ) (o : Option Function) → LivesFirst (begun_by p input o)
+start_living : (p : Sealed) (input : List ℤ) (o : Option Function) → LivesFirst (begun_by p.program input o)
 start_living p input None = tt
 start_living p input (Some f) = begun_living p input f f.blocks
 
 pub living_are_of_frames : LivingAreOfFrames
 living_are_of_frames p input past s c =
     holds p input Living (record {
-      begin = λ s e. subst LivesFirst e (start_living p input (function_named main_name p.functions));
+      begin = λ s e. subst LivesFirst e (start_living p input (function_named main_name p.program.functions));
       keep = λ past s h. living_did p past s h (step p s) (step_is p s);
     }) past s c

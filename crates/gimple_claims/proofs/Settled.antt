@@ -1,7 +1,7 @@
 -- A run that has ended or trapped comes to the same with more transfers.
 use Rattle.std.proofs.Common.{◌≡◌, ℕ, zero, suc, ◌+◌, refl, sym, ◌∙◌, ap, subst, arith, Option, Some, None}
 use Rattle.gimple_ir.specs.declared.value.Outcome.{Outcome}
-use Rattle.gimple_ir.specs.declared.program.Program.{Program}
+use Rattle.gimple_core.specs.Sealed.{Sealed}
 use Rattle.gimple_core.specs.State.{State}
 use Rattle.gimple_core.specs.Run.{Reached, Moves, Stops, Traps, paused, then_run, walk, runs, runs_from, start, Run}
 use Rattle.gimple_claims.specs.Laws.{IsSettled, SettledRunsStay}
@@ -16,12 +16,12 @@ then_settled (Moves k t) on more f h = f t h
 then_settled (Stops output status) on more f h = refl
 then_settled (Traps output kind) on more f h = refl
 
-runs_settled : (p : Program) (n : ℕ) (s : State) → IsSettled (runs p n s) → runs p (suc n) s ≡ runs p n s
+runs_settled : (p : Sealed) (n : ℕ) (s : State) → IsSettled (runs p n s) → runs p (suc n) s ≡ runs p n s
 unfolding runs
 runs_settled p zero s h = paused_settled (walk p s.top.rest s) (runs p zero) h
 runs_settled p (suc n) s h = then_settled (walk p s.top.rest s) (runs p n) (runs p (suc n)) (runs_settled p n) h
 
-from_settled : (p : Program) (n : ℕ) (o : Option State) → IsSettled (runs_from p n o) → runs_from p (suc n) o ≡ runs_from p n o
+from_settled : (p : Sealed) (n : ℕ) (o : Option State) → IsSettled (runs_from p n o) → runs_from p (suc n) o ≡ runs_from p n o
 from_settled p n None h = refl
 from_settled p n (Some s) h = runs_settled p n s h
 

@@ -4,25 +4,23 @@ use Rattle.std.specs.List.{find, list_all}
 use Rattle.gimple_ir.specs.declared.scalar.Scalar.{Scalar}
 use Rattle.gimple_ir.specs.declared.scalar.Scalar.TheVariants.{I64, Ptr}
 use Rattle.gimple_ir.specs.declared.scalar.Op.{Op}
-use Rattle.gimple_ir.specs.declared.declarations.Global.{Global}
+use Rattle.gimple_ir.specs.declared.declarations.Register.{Register}
 use Rattle.gimple_ir.specs.declared.operand.Operand.{Operand}
 use Rattle.gimple_ir.specs.declared.value.Object.{Object}
 use Rattle.gimple_ir.specs.declared.value.Value.{Value}
-use Rattle.gimple_ir.specs.declared.value.Value.TheVariants.{Int, Null, At}
+use Rattle.gimple_ir.specs.declared.value.Value.TheVariants.{Int, Null, At, Code}
 use Rattle.gimple_ir.specs.declared.value.TrapKind.{TrapKind}
 use Rattle.gimple_ir.specs.declared.value.TrapKind.TheVariants.{ReadOnly, Bounds}
 use Rattle.gimple_ir.specs.declared.statement.Stmt.{Stmt}
-use Rattle.gimple_ir.specs.declared.statement.Stmt.TheVariants.{Copy, Arith, Compare, Convert, Load, Store, Call, Get, Put, Abort}
+use Rattle.gimple_ir.specs.declared.statement.Stmt.TheVariants.{Copy, Arith, Compare, Convert, Load, Store, Call, Indirect, Get, Put, Abort}
 use Rattle.gimple_ir.specs.declared.program.Function.{Function}
 use Rattle.gimple_ir.specs.declared.program.Program.{Program}
-use Rattle.gimple_core.specs.declared.machine.Cell.{Cell}
 use Rattle.gimple_core.specs.declared.machine.MemorySlot.{MemorySlot}
 use Rattle.gimple_core.specs.declared.machine.Extent.{Extent}
 use Rattle.gimple_core.specs.declared.machine.FoundSlot.{FoundSlot}
-use Rattle.std.specs.Str.{bytes_eq}
 use Rattle.gimple_core.specs.Operators.{in_scalar}
 use Rattle.gimple_core.specs.Memory.{Memory, found_at, found_extent, found_offset, found_slot, put_slot, is_slot, same_object, same_scalar}
-use Rattle.gimple_core.specs.State.{World, Scope, assigned}
+use Rattle.gimple_core.specs.State.{World, Scope, Setting, registers_of, put_at, assigned, is_of}
 use Rattle.gimple_core.specs.Run.{act, assign, assign_result, loaded, stored, got}
 use Rattle.gimple_core.specs.Verdict.{demand}
 use Rattle.gimple_core.specs.Env.{Names, scalar_of}
@@ -30,21 +28,20 @@ use Rattle.gimple_core.specs.Statements as s
 use Rattle.gimple_core.proofs.Passed.{first_passed, demanded}
 use Rattle.gimple_core.proofs.RangeLemmas.{wrapped_in}
 use Rattle.gimple_core.proofs.ScalarLemmas.{same_scalar_true}
-use Rattle.gimple_claims.specs.Laws.{keys}
 use Rattle.gimple_claims.specs.Checks.{env_of}
-use Rattle.gimple_claims.specs.Typed.{is_of, cells_typed, slots_typed}
+use Rattle.gimple_claims.specs.Typed.{registers_typed, slots_typed}
 use Rattle.gimple_claims.proofs.Lists.{found_test, found_has, all_updated, all_at}
-use Rattle.gimple_claims.proofs.TypedValues.{HasCell, has_cell, scalar_there, operand_is, ValueIs, arith_is, bit_in, int_is}
+use Rattle.gimple_claims.proofs.TypedValues.{HasRegister, has_register, typed_put, scalar_there, operand_is, ValueIs, arith_is, bit_in, int_is}
 
-pub record WorldTyped (m : World) : Type 0 where
-  pub cells : cells_typed m.cells ≡ true
+-- the registers of a frame and the slots of memory hold values of their scalars
+pub record WorldTyped (declared : List Register) (m : World) : Type 0 where
+  pub registers : registers_typed declared m.registers ≡ true
   pub slots : slots_typed m.memory.slots ≡ true
 
 -- a value of its scalar put into a register
-pub assigned_is : (cells : List Cell) (name : List ℕ) (scalar : Scalar) (v : Value) → cells_typed cells ≡ true → HasCell cells name scalar → is_of scalar v ≡ true → cells_typed (assigned cells name v) ≡ true
-assigned_is cells name scalar v t c h =
-    all_updated (λ (x : Cell). is_of x.scalar x.value) (λ (x : Cell). bytes_eq x.name name) (λ (x : Cell). record x { value = v }) cells t
-    (λ x e. let both : Some x ≡ Some c.cell = sym e ∙ c.found in let same : x ≡ c.cell = cc in ap (λ (y : Cell). is_of y.scalar v) same ∙ (ap (λ a. is_of a v) c.scalar_is ∙ h))
+assigned_is : (scope : Scope) (values : List Value) (name : List ℕ) (scalar : Scalar) (v : Value) → registers_typed scope.declared values ≡ true → HasRegister scope.declared name scalar → is_of scalar v ≡ true → registers_typed scope.declared (assigned scope values name v) ≡ true
+assigned_is scope values name scalar v t c h =
+    ap (λ o. registers_typed scope.declared (put_at values o v)) c.place_is ∙ typed_put scope.declared values c.place c.register v t c.at (ap (λ a. is_of a v) c.scalar_is ∙ h)
 
 -- ---- memory
 
@@ -88,58 +85,59 @@ found_is : (m : Memory) (t : slots_typed m.slots ≡ true) (v : Value) (scalar :
 unfolding found_at
 found_is m t (Int z) scalar = tt
 found_is m t Null scalar = tt
+found_is m t (Code name) scalar = tt
 found_is m t (At object offset) scalar = extent_is m.slots t scalar object offset _
 
 -- ---- statements
 
-abbrev ActIs : Result World TrapKind → Type 0
-ActIs (Ok w) = WorldTyped w
-ActIs (Err k) = Unit {0}
+abbrev ActIs : List Register → Result World TrapKind → Type 0
+ActIs declared (Ok w) = WorldTyped declared w
+ActIs declared (Err k) = Unit {0}
 
-module _ (p : Program) (f : Function) (globals : List Global) (scope : Scope) (m : World) (k : keys m.cells ≡ f.params ++ f.registers) (t : WorldTyped m) (input : list_all (in_scalar I64) m.input ≡ true) where
-  assign_is : (to : List ℕ) (scalar : Scalar) (v : Value) → scalar_of (env_of p f) to ≡ Ok scalar → is_of scalar v ≡ true → WorldTyped (assign m to v)
-  assign_is to scalar v e h = record { cells = assigned_is m.cells to scalar v t.cells (has_cell p f m.cells to scalar k e) h; slots = t.slots }
+module _ (p : Program) (f : Function) (e : Setting) (scope : Scope) (m : World) (d : scope.declared ≡ registers_of f) (t : WorldTyped scope.declared m) (input : list_all (in_scalar I64) m.input ≡ true) where
+  assign_is : (to : List ℕ) (scalar : Scalar) (v : Value) → scalar_of (env_of p f) to ≡ Ok scalar → is_of scalar v ≡ true → WorldTyped scope.declared (assign scope m to v)
+  assign_is to scalar v g h = record { registers = assigned_is scope m.registers to scalar v t.registers (has_register p f scope.declared to scalar d g) h; slots = t.slots }
 
-  assign_result_is : (to : List ℕ) (scalar : Scalar) → scalar_of (env_of p f) to ≡ Ok scalar → (r : Result Value TrapKind) → ValueIs scalar r → ActIs (assign_result m to r)
-  assign_result_is to scalar e (Ok v) h = assign_is to scalar v e h
-  assign_result_is to scalar e (Err kind) h = tt
+  assign_result_is : (to : List ℕ) (scalar : Scalar) → scalar_of (env_of p f) to ≡ Ok scalar → (r : Result Value TrapKind) → ValueIs scalar r → ActIs scope.declared (assign_result scope m to r)
+  assign_result_is to scalar g (Ok v) h = assign_is to scalar v g h
+  assign_result_is to scalar g (Err kind) h = tt
 
-  loaded_is : (to : List ℕ) (scalar : Scalar) → scalar_of (env_of p f) to ≡ Ok scalar → (r : Result FoundSlot TrapKind) → FoundIs scalar r → ActIs (loaded m to r)
-  loaded_is to scalar e (Ok x) h = assign_is to scalar x.value e h
-  loaded_is to scalar e (Err kind) h = tt
+  loaded_is : (to : List ℕ) (scalar : Scalar) → scalar_of (env_of p f) to ≡ Ok scalar → (r : Result FoundSlot TrapKind) → FoundIs scalar r → ActIs scope.declared (loaded scope m to r)
+  loaded_is to scalar g (Ok x) h = assign_is to scalar x.value g h
+  loaded_is to scalar g (Err kind) h = tt
 
-  stored_by : (scalar : Scalar) (v : Value) (x : FoundSlot) → is_of scalar v ≡ true → (b : Bool) → ActIs (if b then Err ReadOnly else Ok (record m { memory = record m.memory { slots = put_slot m.memory.slots x.object x.offset scalar v } }))
+  stored_by : (scalar : Scalar) (v : Value) (x : FoundSlot) → is_of scalar v ≡ true → (b : Bool) → ActIs scope.declared (if b then Err ReadOnly else Ok (record m { memory = record m.memory { slots = put_slot m.memory.slots x.object x.offset scalar v } }))
   stored_by scalar v x h true = tt
-  stored_by scalar v x h false = record { cells = t.cells; slots = put_is m.memory.slots t.slots scalar x.object x.offset v h }
+  stored_by scalar v x h false = record { registers = t.registers; slots = put_is m.memory.slots t.slots scalar x.object x.offset v h }
 
-  stored_is : (scalar : Scalar) (v : Value) → is_of scalar v ≡ true → (r : Result FoundSlot TrapKind) → ActIs (stored m scalar v r)
+  stored_is : (scalar : Scalar) (v : Value) → is_of scalar v ≡ true → (r : Result FoundSlot TrapKind) → ActIs scope.declared (stored m scalar v r)
   stored_is scalar v h (Ok x) = stored_by scalar v x h x.constant
   stored_is scalar v h (Err kind) = tt
 
-  got_is : (to : List ℕ) → scalar_of (env_of p f) to ≡ Ok I64 → (o : Option ℤ) → slice_get m.input m.taken ≡ o → WorldTyped (got m to o)
-  got_is to e None g = assign_is to I64 (Int (pos 0)) e refl
-  got_is to e (Some z) g =
-      let w : WorldTyped (assign m to (Int z)) = assign_is to I64 (Int z) e (all_at (in_scalar I64) m.input m.taken z input g) in
-      record { cells = w.cells; slots = w.slots }
+  got_is : (to : List ℕ) → scalar_of (env_of p f) to ≡ Ok I64 → (o : Option ℤ) → slice_get m.input m.taken ≡ o → WorldTyped scope.declared (got scope m to o)
+  got_is to r None g = assign_is to I64 (Int (pos 0)) r refl
+  got_is to r (Some z) g =
+      let w : WorldTyped scope.declared (assign scope m to (Int z)) = assign_is to I64 (Int z) r (all_at (in_scalar I64) m.input m.taken z input g) in
+      record { registers = w.registers; slots = w.slots }
 
   -- the left side of an addition to a pointer
   left_is : (scalar : Scalar) (left : Operand) (op : Op) (right : Operand) → s.arith (env_of p f) scalar left op right ≡ Ok tt → scalar ≡ Ptr → s.operand (env_of p f) 4 Ptr left ≡ Ok tt
   unfolding s.arith
-  left_is scalar left op right h e =
-      let whole : s.arith (env_of p f) Ptr left op right ≡ Ok tt = subst (λ a. s.arith (env_of p f) a left op right ≡ Ok tt) e h in
+  left_is scalar left op right h same =
+      let whole : s.arith (env_of p f) Ptr left op right ≡ Ok tt = subst (λ a. s.arith (env_of p f) a left op right ≡ Ok tt) same h in
       let a = first_passed (demand (s.is_add op) 4) _ tt whole in
       let b = first_passed (s.operand (env_of p f) 4 Ptr left) _ tt a.2 in
       b.1
 
-  act_is : (names : Names Function) (x : Stmt) → s.statement (env_of p f) names x ≡ Ok tt → ActIs (act globals scope x m)
+  act_is : (names : Names Function) (x : Stmt) → s.statement (env_of p f) names x ≡ Ok tt → ActIs scope.declared (act e scope x m)
   unfolding act s.statement s.converted
   act_is names (Copy to from) h =
       let a = first_passed (scalar_of (env_of p f) to) _ tt h in
-      assign_is to a.0 _ a.1 (operand_is p f globals scope m.cells k t.cells 4 a.0 from a.2)
+      assign_is to a.0 _ a.1 (operand_is p f e.globals scope m.registers d t.registers 4 a.0 from a.2)
   act_is names (Arith to left op right) h =
       let a = first_passed (scalar_of (env_of p f) to) _ tt h in
-      rw (scalar_there m.cells to a.0 (has_cell p f m.cells to a.0 k a.1))
-      (assign_result_is to a.0 a.1 _ (arith_is a.0 _ op _ (λ e. operand_is p f globals scope m.cells k t.cells 4 Ptr left (left_is a.0 left op right a.2 e))))
+      rw (scalar_there p f scope to a.0 d a.1)
+      (assign_result_is to a.0 a.1 _ (arith_is e.mode a.0 _ op _ (λ same. operand_is p f e.globals scope m.registers d t.registers 4 Ptr left (left_is a.0 left op right a.2 same))))
   act_is names (Compare to left cmp right) h =
       let a = first_passed (scalar_of (env_of p f) to) _ tt h in
       let b = first_passed (demand (not (s.is_pointer a.0)) 4) _ tt a.2 in
@@ -158,14 +156,15 @@ module _ (p : Program) (f : Function) (globals : List Global) (scope : Scope) (m
   act_is names (Store scalar place from) h =
       let a = first_passed (s.place (env_of p f) scalar place) _ tt h in
       let b = first_passed (demand (not (s.is_read_only (env_of p f) place.base)) 14) _ tt a.2 in
-      stored_is scalar _ (operand_is p f globals scope m.cells k t.cells 4 scalar from b.2) _
+      stored_is scalar _ (operand_is p f e.globals scope m.registers d t.registers 4 scalar from b.2) _
   act_is names (Call to callee arguments) h = tt
+  act_is names (Indirect to signature callee arguments) h = tt
   act_is names (Get to) h =
       let a = first_passed (scalar_of (env_of p f) to) _ tt h in
       let same : a.0 ≡ I64 = same_scalar_true a.0 I64 (demanded _ 4 a.2) in
       got_is to (subst (λ b. scalar_of (env_of p f) to ≡ Ok b) same a.1) (slice_get m.input m.taken) refl
-  act_is names (Put from) h = record { cells = t.cells; slots = t.slots }
+  act_is names (Put from) h = record { registers = t.registers; slots = t.slots }
   act_is names Abort h = tt
 
-  pub acted_typed : (names : Names Function) (x : Stmt) (w : World) → s.statement (env_of p f) names x ≡ Ok tt → act globals scope x m ≡ Ok w → WorldTyped w
-  acted_typed names x w h e = subst ActIs e (act_is names x h)
+  pub acted_typed : (names : Names Function) (x : Stmt) (w : World) → s.statement (env_of p f) names x ≡ Ok tt → act e scope x m ≡ Ok w → WorldTyped scope.declared w
+  acted_typed names x w h did = subst (ActIs scope.declared) did (act_is names x h)

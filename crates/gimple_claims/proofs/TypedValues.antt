@@ -1,24 +1,27 @@
 -- Values of operands and of operators, of their scalars.
-use Rattle.std.proofs.Common.{◌≡◌, ℕ, ℤ, pos, Bool, true, false, not, List, [], ◌∷◌, ◌++◌, refl, sym, ◌∙◌, ap, subst, Option, Some, None, Result, Ok, Err, if◌then◌else◌}
-use Rattle.std.specs.List.{find, position}
+use Rattle.std.proofs.Common.{◌≡◌, ℕ, zero, suc, ◌<◌, ℤ, pos, Bool, true, false, not, ◌&&◌, List, [], ◌∷◌, ◌++◌, length, refl, sym, ◌∙◌, ap, subst, rules, Option, Some, None, Result, Ok, Err, if◌then◌else◌, slice_get}
+use Rattle.std.specs.Prelude.{slice_set, unwrap_or}
+use Rattle.std.specs.List.{find, position, position_or_len}
 use Rattle.std.proofs.lemmas.List.{map-append}
+use Rattle.std.proofs.lemmas.List.Folds.{find_at}
+use Rattle.std.proofs.lemmas.Option.{slice_get_within}
 use Rattle.gimple_ir.specs.declared.scalar.Scalar.{Scalar}
 use Rattle.gimple_ir.specs.declared.scalar.Scalar.TheVariants.{I8, I16, I32, I64, U8, U16, U32, U64, Ptr}
+use Rattle.gimple_ir.specs.declared.scalar.Mode.{Mode}
 use Rattle.gimple_ir.specs.declared.scalar.Op.{Op}
 use Rattle.gimple_ir.specs.declared.declarations.Register.{Register}
 use Rattle.gimple_ir.specs.declared.declarations.Global.{Global}
 use Rattle.gimple_ir.specs.declared.operand.Operand.{Operand}
 use Rattle.gimple_ir.specs.declared.operand.Operand.TheVariants.{Reg, Number, Null as NullOperand, Address}
 use Rattle.gimple_ir.specs.declared.value.Value.{Value}
-use Rattle.gimple_ir.specs.declared.value.Value.TheVariants.{Int, Null, At}
+use Rattle.gimple_ir.specs.declared.value.Value.TheVariants.{Int, Null, At, Code}
 use Rattle.gimple_ir.specs.declared.value.TrapKind.{TrapKind}
 use Rattle.gimple_ir.specs.declared.program.Function.{Function}
 use Rattle.gimple_ir.specs.declared.program.Program.{Program}
-use Rattle.gimple_core.specs.declared.machine.Cell.{Cell}
 use Rattle.std.specs.Str.{bytes_eq}
 use Rattle.gimple_core.specs.Operators.{in_scalar, op_of}
 use Rattle.gimple_core.specs.Memory.{moved_by}
-use Rattle.gimple_core.specs.State.{Scope, cell_of, cell_value, cell_scalar, value_in, scalar_in, number_in, offset_in, zero_of}
+use Rattle.gimple_core.specs.State.{Scope, registers_of, register_place, value_at, scalar_or_pointer, value_in, scalar_in, number_in, offset_in, zero_of, is_of}
 use Rattle.gimple_core.specs.Run.{address_of, address_of_global, global_address, local_address, value_of, value_result, any_number, arith_of, one_if}
 use Rattle.gimple_core.specs.Verdict.{demand, found}
 use Rattle.gimple_core.specs.Env.{named, registers_by_name, scalar_of}
@@ -27,10 +30,8 @@ use Rattle.gimple_core.proofs.Passed.{first_passed, demanded, found_so}
 use Rattle.gimple_core.proofs.EnvLemmas.{named_find}
 use Rattle.gimple_core.proofs.RangeLemmas.{wrapped_in, op_in}
 use Rattle.gimple_core.proofs.ScalarLemmas.{same_scalar_true, pointer_is}
-use Rattle.gimple_claims.specs.Laws.{keys}
 use Rattle.gimple_claims.specs.Checks.{env_of}
-use Rattle.gimple_claims.specs.Typed.{is_of, cells_typed}
-use Rattle.gimple_claims.proofs.Lists.{found_has}
+use Rattle.gimple_claims.specs.Typed.{registers_typed}
 use Rattle.gimple_claims.proofs.Checked.{ok_same}
 
 -- ---- numbers and pointers
@@ -82,14 +83,15 @@ unfolding moved_by
 moved_is (Int x) z e = e
 moved_is Null z e = refl
 moved_is (At object offset) z e = wrapped_in I64 _
+moved_is (Code name) z e = refl
 
-global_is : (o : Option ℕ) → is_of Ptr (global_address o) ≡ true
-global_is None = refl
-global_is (Some k) = refl
+global_is : (name : List ℕ) (o : Option ℕ) → is_of Ptr (global_address name o) ≡ true
+global_is name None = refl
+global_is name (Some k) = refl
 
 pub address_of_global_is : (globals : List Global) (name : List ℕ) → is_of Ptr (address_of_global globals name) ≡ true
 unfolding address_of_global
-address_of_global_is globals name = global_is _
+address_of_global_is globals name = global_is name _
 
 local_is : (serial : ℕ) (o : Option ℕ) (v : Value) → is_of Ptr v ≡ true → is_of Ptr (local_address serial o v) ≡ true
 local_is serial None v e = e
@@ -101,67 +103,87 @@ address_is globals scope name = local_is scope.serial (position (λ d. bytes_eq 
 
 -- ---- registers
 
-abbrev first_key : Register → List Register → Register
-first_key d [] = d
-first_key d (k ∷ ks) = k
+-- a register of this scalar, at its place
+pub record HasRegister (declared : List Register) (name : List ℕ) (scalar : Scalar) : Type 0 where
+  pub place : ℕ
+  pub register : Register
+  pub place_is : register_place declared name ≡ Some place
+  pub at : slice_get declared place ≡ Some register
+  pub scalar_is : register.scalar ≡ scalar
 
-abbrev later_keys : List Register → List Register
-later_keys [] = []
-later_keys (k ∷ ks) = ks
+pub register_found : (declared : List Register) (name : List ℕ) (r : Register) → find (λ x. bytes_eq x.name name) declared ≡ Some r → HasRegister declared name r.scalar
+unfolding register_place
+register_found declared name r e =
+    let there : slice_get declared (position_or_len (λ (x : Register). bytes_eq x.name name) declared) ≡ Some r = sym (find_at (λ (x : Register). bytes_eq x.name name) declared) ∙ e in
+    let within : position_or_len (λ (x : Register). bytes_eq x.name name) declared < length declared = slice_get_within declared _ r there in
+    record { place = position_or_len (λ (x : Register). bytes_eq x.name name) declared; register = r; place_is = search (rules, within); at = there; scalar_is = refl }
 
--- a register that the function has, among its cells
-cell_found : (rs : List Register) (cells : List Cell) (name : List ℕ) (r : Register) → keys cells ≡ rs → find (λ x. bytes_eq x.name name) rs ≡ Some r → (c : Cell) × (cell_of name cells ≡ Some c) × (c.scalar ≡ r.scalar)
-cell_found [] cells name r k e = cc
-cell_found (x ∷ rs) [] name r k e = cc
-cell_found (x ∷ rs) (c ∷ cells) name r k e = by (bytes_eq x.name name) (bytes_eq c.name name) (ap (λ n. bytes_eq n name) (sym same_names)) e (cell_found rs cells name r rest)
-  where
-    same_names : c.name ≡ x.name
-    same_names = ap (λ ks. (first_key (record { name = name; scalar = Ptr }) ks).name) k
-
-    same_scalars : c.scalar ≡ x.scalar
-    same_scalars = ap (λ ks. (first_key (record { name = name; scalar = Ptr }) ks).scalar) k
-
-    rest : keys cells ≡ rs
-    rest = ap later_keys k
-
-    by : (a b : Bool) → a ≡ b → (if a then Some x else find (λ y. bytes_eq y.name name) rs) ≡ Some r → (find (λ y. bytes_eq y.name name) rs ≡ Some r → (d : Cell) × (cell_of name cells ≡ Some d) × (d.scalar ≡ r.scalar)) → (d : Cell) × ((if b then Some c else cell_of name cells) ≡ Some d) × (d.scalar ≡ r.scalar)
-    by true true t f more = let same : x ≡ r = cc in (c, refl, same_scalars ∙ ap (λ (y : Register). y.scalar) same)
-    by true false t f more = cc
-    by false true t f more = cc
-    by false false t f more = more f
-
-pub record HasCell (cells : List Cell) (name : List ℕ) (scalar : Scalar) : Type 0 where
-  pub cell : Cell
-  pub found : cell_of name cells ≡ Some cell
-  pub scalar_is : cell.scalar ≡ scalar
-
-pub has_cell : (p : Program) (f : Function) (cells : List Cell) (name : List ℕ) (scalar : Scalar) → keys cells ≡ f.params ++ f.registers → scalar_of (env_of p f) name ≡ Ok scalar → HasCell cells name scalar
+register_named : (p : Program) (f : Function) (name : List ℕ) (scalar : Scalar) → scalar_of (env_of p f) name ≡ Ok scalar → (r : Register) × (find (λ x. bytes_eq x.name name) (registers_of f) ≡ Some r) × (r.scalar ≡ scalar)
 unfolding scalar_of
-has_cell p f cells name scalar k h =
+register_named p f name scalar h =
     let r = first_passed (found (named name (env_of p f).registers) 1) _ scalar h in
-    let there : named name (registers_by_name (f.params ++ f.registers)) ≡ Some r.0 = ap (named name) (map-append (λ (x : Register). (x.name, x)) f.params f.registers) ∙ found_so _ 1 r.0 r.1 in
-    let c = cell_found (f.params ++ f.registers) cells name r.0 k (sym (named_find (λ (x : Register). x.name) name (f.params ++ f.registers)) ∙ there) in
-    record { cell = c.0; found = c.1; scalar_is = c.2 ∙ ok_same r.2 }
+    let there : named name (registers_by_name (registers_of f)) ≡ Some r.0 = ap (named name) (map-append (λ (x : Register). (x.name, x)) f.params f.registers) ∙ found_so _ 1 r.0 r.1 in
+    (r.0, sym (named_find (λ (x : Register). x.name) name (registers_of f)) ∙ there, ok_same r.2)
 
-pub value_there : (cells : List Cell) (name : List ℕ) (scalar : Scalar) → cells_typed cells ≡ true → HasCell cells name scalar → is_of scalar (value_in cells name) ≡ true
-unfolding value_in
-value_there cells name scalar t c =
-    let held : is_of c.cell.scalar c.cell.value ≡ true = found_has (λ (x : Cell). is_of x.scalar x.value) _ cells c.cell t c.found in
-    ap (λ o. is_of scalar (cell_value o)) c.found ∙ (ap (λ a. is_of a c.cell.value) (sym c.scalar_is) ∙ held)
+pub has_register : (p : Program) (f : Function) (declared : List Register) (name : List ℕ) (scalar : Scalar) → declared ≡ registers_of f → scalar_of (env_of p f) name ≡ Ok scalar → HasRegister declared name scalar
+has_register p f declared name scalar d h =
+    let r = register_named p f name scalar h in
+    subst (HasRegister declared name) r.2 (register_found declared name r.0 (ap (find (λ (x : Register). bytes_eq x.name name)) d ∙ r.1))
 
-pub scalar_there : (cells : List Cell) (name : List ℕ) (scalar : Scalar) → HasCell cells name scalar → scalar_in cells name ≡ scalar
+pub scalar_there : (p : Program) (f : Function) (scope : Scope) (name : List ℕ) (scalar : Scalar) → scope.declared ≡ registers_of f → scalar_of (env_of p f) name ≡ Ok scalar → scalar_in scope name ≡ scalar
 unfolding scalar_in
-scalar_there cells name scalar c = ap cell_scalar c.found ∙ c.scalar_is
+scalar_there p f scope name scalar d h =
+    let r = register_named p f name scalar h in
+    ap scalar_or_pointer (ap (find (λ (x : Register). bytes_eq x.name name)) d ∙ r.1) ∙ r.2
+
+head_typed : (a b : Bool) → a && b ≡ true → a ≡ true
+head_typed true b e = refl
+head_typed false b e = cc
+
+tail_typed : (a b : Bool) → a && b ≡ true → b ≡ true
+tail_typed true b e = e
+tail_typed false b e = cc
+
+-- the value at a place has the scalar of the register there
+pub typed_at : (rs : List Register) (vs : List Value) (k : ℕ) (r : Register) → registers_typed rs vs ≡ true → slice_get rs k ≡ Some r → is_of r.scalar (unwrap_or (slice_get vs k) Null) ≡ true
+typed_at [] vs k r t e = cc
+typed_at (x ∷ rs) [] k r t e = cc
+typed_at (x ∷ rs) (v ∷ vs) zero r t e = let same : x ≡ r = cc in ap (λ (y : Register). is_of y.scalar v) (sym same) ∙ head_typed (is_of x.scalar v) (registers_typed rs vs) t
+typed_at (x ∷ rs) (v ∷ vs) (suc k) r t e = typed_at rs vs k r (tail_typed (is_of x.scalar v) (registers_typed rs vs) t) e
+
+-- a value of the register's scalar put at its place
+pub typed_put : (rs : List Register) (vs : List Value) (k : ℕ) (r : Register) (v : Value) → registers_typed rs vs ≡ true → slice_get rs k ≡ Some r → is_of r.scalar v ≡ true → registers_typed rs (slice_set vs k v) ≡ true
+typed_put [] vs k r v t e h = cc
+typed_put (x ∷ rs) [] k r v t e h = cc
+typed_put (x ∷ rs) (w ∷ vs) zero r v t e h =
+    let same : x ≡ r = cc in
+    let here : is_of x.scalar v ≡ true = ap (λ (y : Register). is_of y.scalar v) same ∙ h in
+    rw here (tail_typed (is_of x.scalar w) (registers_typed rs vs) t)
+typed_put (x ∷ rs) (w ∷ vs) (suc k) r v t e h =
+    rw (head_typed (is_of x.scalar w) (registers_typed rs vs) t) (typed_put rs vs k r v (tail_typed (is_of x.scalar w) (registers_typed rs vs) t) e h)
+
+pub typed_append : (rs ss : List Register) (vs ws : List Value) → registers_typed rs vs ≡ true → registers_typed ss ws ≡ true → registers_typed (rs ++ ss) (vs ++ ws) ≡ true
+typed_append [] ss [] ws t u = u
+typed_append [] ss (v ∷ vs) ws t u = cc
+typed_append (r ∷ rs) ss [] ws t u = cc
+typed_append (r ∷ rs) ss (v ∷ vs) ws t u =
+    rw (head_typed (is_of r.scalar v) (registers_typed rs vs) t) (typed_append rs ss vs ws (tail_typed (is_of r.scalar v) (registers_typed rs vs) t) u)
+
+pub value_there : (scope : Scope) (values : List Value) (name : List ℕ) (scalar : Scalar) → registers_typed scope.declared values ≡ true → HasRegister scope.declared name scalar → is_of scalar (value_in scope values name) ≡ true
+unfolding value_in
+value_there scope values name scalar t c =
+    ap (λ o. is_of scalar (value_at values o)) c.place_is
+    ∙ (ap (λ a. is_of a (unwrap_or (slice_get values c.place) Null)) (sym c.scalar_is) ∙ typed_at scope.declared values c.place c.register t c.at)
 
 -- ---- operands
 
-module _ (p : Program) (f : Function) (globals : List Global) (scope : Scope) (cells : List Cell) (k : keys cells ≡ f.params ++ f.registers) (t : cells_typed cells ≡ true) where
-  pub operand_is : (wrong : ℕ) (scalar : Scalar) (x : Operand) → s.operand (env_of p f) wrong scalar x ≡ Ok tt → is_of scalar (value_of globals scope cells x) ≡ true
+module _ (p : Program) (f : Function) (globals : List Global) (scope : Scope) (values : List Value) (d : scope.declared ≡ registers_of f) (t : registers_typed scope.declared values ≡ true) where
+  pub operand_is : (wrong : ℕ) (scalar : Scalar) (x : Operand) → s.operand (env_of p f) wrong scalar x ≡ Ok tt → is_of scalar (value_of globals scope values x) ≡ true
   unfolding s.operand
   operand_is wrong scalar (Reg name) h =
       let own = first_passed (scalar_of (env_of p f) name) _ tt h in
       let same : own.0 ≡ scalar = same_scalar_true own.0 scalar (demanded _ wrong own.2) in
-      value_there cells name scalar t (has_cell p f cells name scalar k (subst (λ a. scalar_of (env_of p f) name ≡ Ok a) same own.1))
+      value_there scope values name scalar t (has_register p f scope.declared name scalar d (subst (λ a. scalar_of (env_of p f) name ≡ Ok a) same own.1))
   operand_is wrong scalar (Number z) h =
       let a = first_passed (demand (not (s.is_pointer scalar)) wrong) _ tt h in
       int_is scalar z (demanded _ wrong a.1) (demanded _ 13 a.2)
@@ -178,9 +200,9 @@ abbrev pub ValueIs : Scalar → Result Value TrapKind → Type 0
 ValueIs scalar (Ok v) = is_of scalar v ≡ true
 ValueIs scalar (Err kind) = Unit {0}
 
-result_is : (op : Op) (scalar : Scalar) (l r : ℤ) → not (s.is_pointer scalar) ≡ true → in_scalar scalar l ≡ true → (e : Result ℤ TrapKind) → op_of op scalar l r ≡ e → ValueIs scalar (value_result e)
-result_is op scalar l r n h (Ok z) e = int_is scalar z n (op_in op scalar l r z h e)
-result_is op scalar l r n h (Err kind) e = tt
+result_is : (mode : Mode) (op : Op) (scalar : Scalar) (l r : ℤ) → not (s.is_pointer scalar) ≡ true → in_scalar scalar l ≡ true → (e : Result ℤ TrapKind) → op_of mode op scalar l r ≡ e → ValueIs scalar (value_result e)
+result_is mode op scalar l r n h (Ok z) e = int_is scalar z n (op_in mode op scalar l r z h e)
+result_is mode op scalar l r n h (Err kind) e = tt
 
 zero_in : (scalar : Scalar) → in_scalar scalar (pos 0) ≡ true
 zero_in I8 = refl
@@ -202,15 +224,16 @@ unfolding number_in
 number_is scalar (Int z) = number_by scalar z (in_scalar scalar z) refl
 number_is scalar Null = zero_in scalar
 number_is scalar (At object offset) = zero_in scalar
+number_is scalar (Code name) = zero_in scalar
 
-pub arith_is : (scalar : Scalar) (l : Value) (op : Op) (r : Value) → (scalar ≡ Ptr → is_of Ptr l ≡ true) → ValueIs scalar (arith_of scalar l op r)
+pub arith_is : (mode : Mode) (scalar : Scalar) (l : Value) (op : Op) (r : Value) → (scalar ≡ Ptr → is_of Ptr l ≡ true) → ValueIs scalar (arith_of mode scalar l op r)
 unfolding arith_of
-arith_is I8 l op r h = result_is op I8 _ _ refl (number_is I8 l) _ refl
-arith_is I16 l op r h = result_is op I16 _ _ refl (number_is I16 l) _ refl
-arith_is I32 l op r h = result_is op I32 _ _ refl (number_is I32 l) _ refl
-arith_is I64 l op r h = result_is op I64 _ _ refl (number_is I64 l) _ refl
-arith_is U8 l op r h = result_is op U8 _ _ refl (number_is U8 l) _ refl
-arith_is U16 l op r h = result_is op U16 _ _ refl (number_is U16 l) _ refl
-arith_is U32 l op r h = result_is op U32 _ _ refl (number_is U32 l) _ refl
-arith_is U64 l op r h = result_is op U64 _ _ refl (number_is U64 l) _ refl
-arith_is Ptr l op r h = moved_is l (any_number r) (h refl)
+arith_is mode I8 l op r h = result_is mode op I8 _ _ refl (number_is I8 l) _ refl
+arith_is mode I16 l op r h = result_is mode op I16 _ _ refl (number_is I16 l) _ refl
+arith_is mode I32 l op r h = result_is mode op I32 _ _ refl (number_is I32 l) _ refl
+arith_is mode I64 l op r h = result_is mode op I64 _ _ refl (number_is I64 l) _ refl
+arith_is mode U8 l op r h = result_is mode op U8 _ _ refl (number_is U8 l) _ refl
+arith_is mode U16 l op r h = result_is mode op U16 _ _ refl (number_is U16 l) _ refl
+arith_is mode U32 l op r h = result_is mode op U32 _ _ refl (number_is U32 l) _ refl
+arith_is mode U64 l op r h = result_is mode op U64 _ _ refl (number_is U64 l) _ refl
+arith_is mode Ptr l op r h = moved_is l (any_number r) (h refl)
