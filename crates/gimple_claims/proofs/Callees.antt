@@ -18,7 +18,7 @@ use Rattle.gimple_ir.specs.declared.program.Function.{Function}
 use Rattle.gimple_core.specs.Memory.{same_scalar}
 use Rattle.gimple_core.specs.State.{Scope, value_in}
 use Rattle.gimple_core.specs.Run.{Callee, Named, Through, Calling, call_of, function_named, same_scalars, same_result, has_signature, called_by_name, called_with, called_through, called_function}
-use Rattle.gimple_core.specs.Verdict.{demand, found}
+use Rattle.gimple_core.specs.Verdict.{Verdict, demand, found}
 use Rattle.gimple_core.specs.Env.{Env, Names, named, scalar_of, functions_by_name}
 use Rattle.gimple_core.specs.Statements as s
 use Rattle.gimple_core.proofs.NameLemmas.{same_name_true}
@@ -45,7 +45,7 @@ pub record HoldsFunction (fs : List Function) (signature : Signature) (v : Value
   pub found : function_named name fs ≡ Some g
   pub fits : has_signature signature g ≡ true
 
-abbrev called_if : Bool → Function → Result Function TrapKind
+abbrev pub called_if : Bool → Function → Result Function TrapKind
 called_if b f = if b then Ok f else Err BadCall
 
 with_fits : (signature : Signature) (f g : Function) (b : Bool) → has_signature signature f ≡ b → called_if b f ≡ Ok g → (f ≡ g) × (has_signature signature g ≡ true)
@@ -98,6 +98,28 @@ signature_is signature g e =
 
 -- ---- the checks of a call
 
+abbrev pub call_check : Env → Names Function → Option (List ℕ) → List Operand → Callee → Verdict (Unit {0})
+call_check env names to xs (Named name) = s.called env names to name xs
+call_check env names to xs (Through name signature) = s.called_through env to signature name xs
+
+pub called_of : (env : Env) (names : Names Function) (x : Stmt) (c : Calling) → call_of x ≡ Some c → s.statement env names x ≡ Ok tt → call_check env names c.to c.arguments c.callee ≡ Ok tt
+unfolding s.statement
+called_of env names (Copy to from) c e h = cc
+called_of env names (Arith to left op right) c e h = cc
+called_of env names (Compare to left cmp right) c e h = cc
+called_of env names (Convert to scalar from) c e h = cc
+called_of env names (Load to scalar place) c e h = cc
+called_of env names (Store scalar place from) c e h = cc
+called_of env names (Call to name xs) c e h =
+    let same : record { to = to; callee = Named name; arguments = xs } ≡ c = cc in
+    subst (λ (z : Calling). call_check env names z.to z.arguments z.callee ≡ Ok tt) same h
+called_of env names (Indirect to signature name xs) c e h =
+    let same : record { to = to; callee = Through name signature; arguments = xs } ≡ c = cc in
+    subst (λ (z : Calling). call_check env names z.to z.arguments z.callee ≡ Ok tt) same h
+called_of env names (Get to) c e h = cc
+called_of env names (Put from) c e h = cc
+called_of env names Abort c e h = cc
+
 -- the arguments fit these scalars, and the target this result
 pub record CallPasses (env : Env) (c : Calling) (scalars : List Scalar) (result : Option Scalar) : Type 0 where
   pub target : Option Scalar
@@ -146,24 +168,12 @@ module _ (env : Env) (fs : List Function) where
       subst (λ r. CallPasses env (record { to = to; callee = Through name signature; arguments = xs }) (s.scalars_of g.params) r) (sym same.1)
       (subst (λ ss. CallPasses env (record { to = to; callee = Through name signature; arguments = xs }) ss signature.result) (sym same.0) (through_passes to signature name xs h))
 
+  checked_passes : (scope : Scope) (registers : List Value) (to : Option (List ℕ)) (xs : List Operand) (callee : Callee) (g : Function) → call_check env (functions_by_name fs) to xs callee ≡ Ok tt → called_function fs scope registers callee ≡ Ok g →
+      CallPasses env (record { to = to; callee = callee; arguments = xs }) (s.scalars_of g.params) g.result
+  checked_passes scope registers to xs (Named name) g h e = named_passes to name xs g h (by_name (function_named name fs) g e)
+  checked_passes scope registers to xs (Through name signature) g h e = passes_through scope registers to signature name xs g h e
+
   -- where a call enters a function, its arguments and its target fit that function
   pub call_passes : (scope : Scope) (registers : List Value) (x : Stmt) (c : Calling) (g : Function) → call_of x ≡ Some c → s.statement env (functions_by_name fs) x ≡ Ok tt → called_function fs scope registers c.callee ≡ Ok g →
       CallPasses env c (s.scalars_of g.params) g.result
-  unfolding s.statement
-  call_passes scope registers (Copy to from) c g n h e = cc
-  call_passes scope registers (Arith to left op right) c g n h e = cc
-  call_passes scope registers (Compare to left cmp right) c g n h e = cc
-  call_passes scope registers (Convert to scalar from) c g n h e = cc
-  call_passes scope registers (Load to scalar place) c g n h e = cc
-  call_passes scope registers (Store scalar place from) c g n h e = cc
-  call_passes scope registers (Call to name xs) c g n h e =
-      let same : record { to = to; callee = Named name; arguments = xs } ≡ c = cc in
-      subst (λ (z : Calling). called_function fs scope registers z.callee ≡ Ok g → CallPasses env z (s.scalars_of g.params) g.result) same
-      (λ k. named_passes to name xs g h (by_name (function_named name fs) g k)) e
-  call_passes scope registers (Indirect to signature name xs) c g n h e =
-      let same : record { to = to; callee = Through name signature; arguments = xs } ≡ c = cc in
-      subst (λ (z : Calling). called_function fs scope registers z.callee ≡ Ok g → CallPasses env z (s.scalars_of g.params) g.result) same
-      (λ k. passes_through scope registers to signature name xs g h k) e
-  call_passes scope registers (Get to) c g n h e = cc
-  call_passes scope registers (Put from) c g n h e = cc
-  call_passes scope registers Abort c g n h e = cc
+  call_passes scope registers x c g n h e = checked_passes scope registers c.to c.arguments c.callee g (called_of env (functions_by_name fs) x c n h) e

@@ -5,7 +5,7 @@ use Rattle.gimple_ir.specs.declared.program.Function.{Function}
 use Rattle.gimple_ir.specs.declared.block.Block.{Block}
 use Rattle.gimple_core.specs.Sealed.{Sealed}
 use Rattle.gimple_ir.specs.declared.statement.Stmt.{Stmt}
-use Rattle.gimple_core.specs.State.{State, scope_of, setting_of}
+use Rattle.gimple_core.specs.State.{State, scope_of}
 use Rattle.gimple_core.specs.Run.{step, stepped, Did, Reaches, Moves, CallEntry, Calling, call_of, values_of}
 use Rattle.gimple_core.specs.Trace.{Event, Entry, At, told, told_by, after}
 use Rattle.gimple_claims.specs.Runs.{Comes}
@@ -13,7 +13,7 @@ use Rattle.gimple_claims.specs.Kept.{new_body}
 use Rattle.gimple_claims.specs.Instances.{Instances, instance, Specialises}
 use Rattle.gimple_core.proofs.Simulation.{Does}
 use Rattle.gimple_claims.proofs.Activation.{told_call}
-use Rattle.gimple_claims.proofs.Instances.{Alike, alike, instance_beside}
+use Rattle.gimple_claims.proofs.Instances.{scope_same, Alike, alike, instance_beside}
 use Rattle.gimple_claims.proofs.Steps.{Steps, called, acts, calls, jumps, leaves, stops, traps, step_is}
 
 module _ (I : Instances) (Fits : List Event → ℕ → ℕ → Type 0) (p : Sealed) (gs : List Function) (input : List ℤ) (spec : Specialises I Fits p gs input) where
@@ -41,7 +41,7 @@ module _ (I : Instances) (Fits : List Event → ℕ → ℕ → Type 0) (p : Sea
       let found : Some g.0 ≡ Some d = sym g.1 ∙ (ap call_of (sym same) ∙ m) in
       let calling : g.0 ≡ d = cc in
       sym g.3 ∙ (ap (λ (z : Calling). values_of p.program.globals (scope_of s.top) s.world.registers z.arguments) calling ∙
-      (λ i. values_of p.program.globals (record { locals = sym (ap (λ (h : Function). h.locals) k.top.function ∙ ap (λ (h : Function). h.locals) k.top.source) i; serial = sym k.top.serial i }) (sym k.world i).cells d.arguments))
+      (λ i. values_of p.program.globals (sym (scope_same I Fits p gs input spec past s.next s.top t.top k.top) i) (sym k.world i).registers d.arguments))
 
   entry_of : (past hist now later : List Event) (s t : State) (y : Stmt) (ys : List Stmt) (d : Calling) (g : Function) (b : Block) → Comes p input past s → Alike I Fits p gs input spec past hist s t → now ≡ after past (told p s) → t.top.rest ≡ y ∷ ys → call_of y ≡ Some d →
       (a : Did) → Steps p s a → step p s ≡ a → Does (Alike I Fits p gs input spec now later) a (Reaches (Moves CallEntry (called q t ys d g b))) → EntryBeside g (values_of p.program.globals (scope_of t.top) t.world.registers d.arguments)
@@ -61,7 +61,7 @@ module _ (I : Instances) (Fits : List Event → ℕ → ℕ → Type 0) (p : Sea
         fits = subst (λ vs. Fits (Entry s.next h vs s.world.memory (Some s.top) ∷ At s.top s.world ∷ past) s.next r'.top.number) same
             (subst (λ es. Fits (after past es) s.next r'.top.number) tells (subst (λ es. Fits es s.next r'.top.number) w r'.top.fits));
       }
-  entry_of past hist now later s t y ys d g b comes k w e m _ (jumps label z f x o) st r' =
+  entry_of past hist now later s t y ys d g b comes k w e m _ (jumps label j z f x o) st r' =
       let next : t.next + 1 ≡ s.next = r'.next in let before : t.next ≡ s.next = k.next in absurd (omega (arith, next, before))
   entry_of past hist now later s t y ys d g b comes k w e m _ (leaves v z zs f x o) st r' =
       let next : t.next + 1 ≡ s.next = r'.next in let before : t.next ≡ s.next = k.next in absurd (omega (arith, next, before))

@@ -1,5 +1,5 @@
 -- A program made of instances runs as the program does, and each instance's facts are met wherever it runs.
-use Rattle.std.proofs.Common.{◌+◌, ◌<◌, ◌≤◌, ◌≡◌, ℕ, ℤ, List, [], ◌∷◌, ◌++◌, refl, sym, ◌∙◌, ap, subst, arith, Option, Some, None, Result, Ok, Err, if◌then◌else◌}
+use Rattle.std.proofs.Common.{◌+◌, ◌<◌, ◌≤◌, ◌≡◌, ℕ, ℤ, List, [], ◌∷◌, refl, sym, ◌∙◌, ap, subst, arith, Option, Some, None, Result, Ok, Err, if◌then◌else◌}
 use Rattle.gimple_ir.specs.declared.statement.Stmt.{Stmt}
 use Rattle.gimple_ir.specs.declared.block.End.{End}
 use Rattle.gimple_ir.specs.declared.block.End.TheVariants.{Goto, If, Switch, Return}
@@ -10,14 +10,13 @@ use Rattle.gimple_ir.specs.declared.program.Function.{Function}
 use Rattle.gimple_core.specs.Sealed.{Sealed}
 use Rattle.gimple_ir.specs.declared.value.TrapKind.{TrapKind}
 use Rattle.gimple_core.specs.Memory.{without_frame}
-use Rattle.gimple_core.specs.State.{Control, Frame, World, State, Scope, scope_of}
-use Rattle.gimple_core.specs.Run.{step, stepped, start, compares, case_for, any_number, value_of, given, cells_made, with_locals, with_globals, no_memory, control_made, Calling, call_of, Reaches, Reached, Moves, CallEntry, performed, act, acted, resumed, finish, jump, jumped, block_at, block_place, place_or, returned, entered, enter, values_of, function_named, main_name, begun, begun_by, Run}
+use Rattle.gimple_core.specs.State.{Control, Frame, World, State, Scope, scope_of, setting_of, registers_of}
+use Rattle.gimple_core.specs.Run.{step, stepped, start, compares, case_for, any_number, value_of, given, taking, registers_made, with_locals, first_memory, control_made, Calling, call_of, called_function, Reaches, Moves, CallEntry, performed, act, acted, resumed, Exit, ToLabel, Returns, exit_of, leave, finish, jump, jumped, labelled, returned, entered, enter, values_of, function_named, main_name, begun, begun_by, Run}
 use Rattle.gimple_core.specs.Trace.{Event, main_entry, told, after}
 use Rattle.gimple_claims.specs.Runs.{Comes}
-use Rattle.gimple_core.specs.Run.{Exit, ToLabel, Returns, exit_of}
 use Rattle.gimple_claims.specs.Kept.{new_body}
 use Rattle.gimple_claims.specs.Instances.{Instances, instance, AreMade, BeginAlike, CalleesAlike, StandsFor, MainsAlike, Specialises}
-use Rattle.gimple_claims.proofs.Activation.{own_name}
+use Rattle.gimple_claims.proofs.Callees.{own_name, called_own}
 use Rattle.gimple_claims.proofs.Along.{StepsAlike, StartAlike, run_alike, Beside, beside}
 use Rattle.gimple_core.proofs.Simulation.{Matches, Does}
 
@@ -40,7 +39,7 @@ module _ (I : Instances) (Fits : List Event → ℕ → ℕ → Type 0) (p : Sea
   AlikeFrames past n [] [] = Unit {0}
   AlikeFrames past n [] (g ∷ hs) = ⊥
   AlikeFrames past n (f ∷ fs) [] = ⊥
-  AlikeFrames past n (f ∷ fs) (g ∷ hs) = AlikeControl past n f.control g.control × (g.cells ≡ f.cells) × AlikeFrames past n fs hs
+  AlikeFrames past n (f ∷ fs) (g ∷ hs) = AlikeControl past n f.control g.control × (g.registers ≡ f.registers) × AlikeFrames past n fs hs
 
   pub record Alike (past hist : List Event) (s t : State) : Type 0 where
     pub top : AlikeControl past s.next s.top t.top
@@ -61,8 +60,8 @@ module _ (I : Instances) (Fits : List Event → ℕ → ℕ → Type 0) (p : Sea
   frames_on past s m (f ∷ fs) [] comes l k = absurd k
   frames_on past s m (f ∷ fs) (g ∷ hs) comes l k = (control_on past s m f.control g.control comes l k.0, k.1, frames_on past s m fs hs comes l k.2)
 
-  scope_same : (past : List Event) (n : ℕ) (c d : Control) → AlikeControl past n c d → scope_of d ≡ scope_of c
-  scope_same past n c d k = λ i. record { locals = ((ap (λ (f : Function). f.locals) k.function ∙ ap (λ (f : Function). f.locals) k.source) i); serial = k.serial i }
+  pub scope_same : (past : List Event) (n : ℕ) (c d : Control) → AlikeControl past n c d → scope_of d ≡ scope_of c
+  scope_same past n c d k = λ i. record { declared = (ap registers_of k.function ∙ ap registers_of k.source) i; locals = ((ap (λ (f : Function). f.locals) k.function ∙ ap (λ (f : Function). f.locals) k.source) i); serial = k.serial i }
 
   output_same : (past hist : List Event) (s t : State) → Alike past hist s t → s.world.output ≡ t.world.output
   output_same past hist s t k = sym (ap (λ (w : World). w.output) k.world)
@@ -76,7 +75,7 @@ module _ (I : Instances) (Fits : List Event → ℕ → ℕ → Type 0) (p : Sea
   acted_alike past hist now later s t xs ys (Ok w) c b k = record { top = c; below = b; world = refl; next = k.next }
   acted_alike past hist now later s t xs ys (Err kind) c b k = (output_same past hist s t k, refl)
 
-  entered_alike : (past hist now later : List Event) (s t : State) (xs ys : List Stmt) (to : Option (List ℕ)) (vs : List Value) (j : ℕ) (bs cs : List Block) → Alike past hist s t → AlikeControl now (s.next + 1) (resumed s xs).top (resumed t ys).top → AlikeFrames now (s.next + 1) s.below t.below →
+  entered_alike : (past hist now later : List Event) (s t : State) (xs ys : List Stmt) (to : Option ℕ) (vs : List Value) (j : ℕ) (bs cs : List Block) → Alike past hist s t → AlikeControl now (s.next + 1) (resumed s xs).top (resumed t ys).top → AlikeFrames now (s.next + 1) s.below t.below →
       BeginAlike I j bs cs → ((u : State) → entered p.program.structs (resumed s xs) to vs (I.source j) bs ≡ Moves CallEntry u → Fits now s.next j) → Matches (Alike now later) (entered p.program.structs (resumed s xs) to vs (I.source j) bs) (entered p.program.structs (resumed t ys) to vs (instance I j) cs)
   entered_alike past hist now later s t xs ys to vs j [] [] k c b e fits = (output_same past hist s t k, refl)
   entered_alike past hist now later s t xs ys to vs j [] (y ∷ zs) k c b e fits = absurd e
@@ -84,26 +83,23 @@ module _ (I : Instances) (Fits : List Event → ℕ → ℕ → Type 0) (p : Sea
   entered_alike past hist now later s t xs ys to vs j (x ∷ ws) (y ∷ zs) k c b e fits = record {
     top = record { number = j; source = refl; function = refl; rest = e.body; end = e.end; serial = k.next; takes = refl; fits = fits _ refl; older = omega arith };
     below = (c, ap (λ (w : World). w.registers) k.world, b);
-    world = λ i. record (k.world i) { cells = cells_made (I.source j).params vs 0 ++ cells_made (I.source j).registers [] 0; memory = with_locals p.program.structs (k.next i) 0 (I.source j).locals (k.world i).memory };
+    world = λ i. record (k.world i) { registers = registers_made (I.source j) vs; memory = with_locals p.program.structs (k.next i) 0 (I.source j).locals (k.world i).memory };
     next = λ i. k.next i + 1;
   }
 
-  enter_alike : (past hist later : List Event) (s t : State) (xs ys : List Stmt) (c d : Calling) (vs : List Value) (o r : Option Function) → Comes p input past s → Alike past hist s t → AlikeControl (after past (told p s)) (s.next + 1) (resumed s xs).top (resumed t ys).top →
-      AlikeFrames (after past (told p s)) (s.next + 1) s.below t.below → function_named c.callee p.program.functions ≡ o → function_named d.callee gs ≡ r → CalleesAlike I Fits p made past s c d o → step p s ≡ Reaches (enter p.program.structs (resumed s xs) c.to vs o) →
-      Matches (Alike (after past (told p s)) later) (enter p.program.structs (resumed s xs) c.to vs o) (enter p.program.structs (resumed t ys) c.to vs r)
-  enter_alike past hist later s t xs ys c d vs None None comes k a b n m e st = (output_same past hist s t k, refl)
-  enter_alike past hist later s t xs ys c d vs None (Some g) comes k a b n m e st = cc
-  enter_alike past hist later s t xs ys c d vs (Some f) None comes k a b n m e st = let h = e.callee in cc
-  enter_alike past hist later s t xs ys c d vs (Some f) (Some g) comes k a b n m e st =
-      let own : function_named (I.source e.number).name p.program.functions ≡ Some (I.source e.number) = subst (λ (h : Function). function_named h.name p.program.functions ≡ Some h) (sym e.source) (own_name c.callee p.program.functions f n) in
-      let callee : function_named d.callee gs ≡ Some (instance I e.number) = e.callee in
-      let same : instance I e.number ≡ g = cc in
-      let there : step p s ≡ Reaches (entered p.program.structs (resumed s xs) c.to vs (I.source e.number) (I.source e.number).blocks) = subst (λ (h : Function). step p s ≡ Reaches (entered p.program.structs (resumed s xs) c.to vs h h.blocks)) (sym e.source) st in
-      subst (λ (h : Function). Matches (Alike (after past (told p s)) later) (entered p.program.structs (resumed s xs) c.to vs h h.blocks) (entered p.program.structs (resumed t ys) c.to vs g g.blocks)) e.source
-      (subst (λ (h : Function). Matches (Alike (after past (told p s)) later) (entered p.program.structs (resumed s xs) c.to vs (I.source e.number) (I.source e.number).blocks) (entered p.program.structs (resumed t ys) c.to vs h h.blocks)) same
-      (entered_alike past hist (after past (told p s)) later s t xs ys c.to vs e.number (I.source e.number).blocks (I.blocks e.number) k a b (spec.begin e.number own) (λ u x. e.fits u (there ∙ ap Reaches x))))
+  enter_alike : (past hist later : List Event) (s t : State) (xs ys : List Stmt) (to : Option ℕ) (vs : List Value) (o r : Result Function TrapKind) → Comes p input past s → Alike past hist s t → AlikeControl (after past (told p s)) (s.next + 1) (resumed s xs).top (resumed t ys).top →
+      AlikeFrames (after past (told p s)) (s.next + 1) s.below t.below → ((g : Function) → o ≡ Ok g → function_named g.name p.program.functions ≡ Some g) → CalleesAlike I Fits p past s o r → step p s ≡ Reaches (enter p.program.structs (resumed s xs) to vs o) →
+      Matches (Alike (after past (told p s)) later) (enter p.program.structs (resumed s xs) to vs o) (enter p.program.structs (resumed t ys) to vs r)
+  enter_alike past hist later s t xs ys to vs (Err kind) r comes k a b own e st =
+      subst (λ z. Matches (Alike (after past (told p s)) later) (enter p.program.structs (resumed s xs) to vs (Err kind)) (enter p.program.structs (resumed t ys) to vs z)) (sym e) (output_same past hist s t k, refl)
+  enter_alike past hist later s t xs ys to vs (Ok f) r comes k a b own e st =
+      let mine : function_named (I.source e.number).name p.program.functions ≡ Some (I.source e.number) = subst (λ (h : Function). function_named h.name p.program.functions ≡ Some h) (sym e.source) (own f refl) in
+      let there : step p s ≡ Reaches (entered p.program.structs (resumed s xs) to vs (I.source e.number) (I.source e.number).blocks) = subst (λ (h : Function). step p s ≡ Reaches (entered p.program.structs (resumed s xs) to vs h h.blocks)) (sym e.source) st in
+      subst (λ z. Matches (Alike (after past (told p s)) later) (enter p.program.structs (resumed s xs) to vs (Ok f)) (enter p.program.structs (resumed t ys) to vs z)) (sym e.callee)
+      (subst (λ (h : Function). Matches (Alike (after past (told p s)) later) (entered p.program.structs (resumed s xs) to vs h h.blocks) (entered p.program.structs (resumed t ys) to vs (instance I e.number) (I.blocks e.number))) e.source
+      (entered_alike past hist (after past (told p s)) later s t xs ys to vs e.number (I.source e.number).blocks (I.blocks e.number) k a b (spec.begin e.number mine) (λ u x. e.fits u (there ∙ ap Reaches x))))
 
-  performed_alike : (past hist later : List Event) (s t : State) (x y : Stmt) (xs ys : List Stmt) → Comes p input past s → (k : Alike past hist s t) → ys ≡ new_body (I.put k.top.number) s.top.block (s.top.index + 1) xs → StandsFor I Fits p made past s x y →
+  performed_alike : (past hist later : List Event) (s t : State) (x y : Stmt) (xs ys : List Stmt) → Comes p input past s → (k : Alike past hist s t) → ys ≡ new_body (I.put k.top.number) s.top.block (s.top.index + 1) xs → StandsFor I Fits p gs past s x y →
       (o r : Option Calling) → call_of x ≡ o → call_of y ≡ r → step p s ≡ performed p o x (resumed s xs) → Does (Alike (after past (told p s)) later) (performed p o x (resumed s xs)) (performed made r y (resumed t ys))
   performed_alike past hist later s t x y xs ys comes k e f None None a b st =
       let same : act (setting_of p) (scope_of t.top) y t.world ≡ act (setting_of p) (scope_of s.top) x s.world = (λ i. act (setting_of p) (scope_same past s.next s.top t.top k.top i) y (k.world i)) ∙ (f.act a).1 in
@@ -114,25 +110,27 @@ module _ (I : Instances) (Fits : List Event → ℕ → ℕ → Type 0) (p : Sea
       let g = f.call c a in
       let h = g.1 in
       let same : g.0 ≡ d = cc in
-      let to : d.to ≡ c.to = ap (λ (z : Calling). z.to) (sym same) ∙ g.2 in
+      let to : taking (scope_of t.top) d.to ≡ taking (scope_of s.top) c.to = (λ i. taking (scope_same past s.next s.top t.top k.top i) d.to) ∙ ap (taking (scope_of s.top)) (ap (λ (z : Calling). z.to) (sym same) ∙ g.2) in
       let values : values_of p.program.globals (scope_of t.top) t.world.registers d.arguments ≡ values_of p.program.globals (scope_of s.top) s.world.registers c.arguments =
-      (λ i. values_of p.program.globals (scope_same past s.next s.top t.top k.top i) (k.world i).cells d.arguments) ∙
+      (λ i. values_of p.program.globals (scope_same past s.next s.top t.top k.top i) (k.world i).registers d.arguments) ∙
       (ap (λ (z : Calling). values_of p.program.globals (scope_of s.top) s.world.registers z.arguments) (sym same) ∙ g.3) in
-      let callees : CalleesAlike I Fits p made past s c d (function_named c.callee p.program.functions) = subst (λ z. CalleesAlike I Fits p made past s c z (function_named c.callee p.program.functions)) same g.4 in
+      let callee : called_function gs (scope_of t.top) t.world.registers d.callee ≡ called_function gs (scope_of s.top) s.world.registers g.0.callee =
+      (λ i. called_function gs (scope_same past s.next s.top t.top k.top i) (k.world i).registers d.callee) ∙ ap (λ (z : Calling). called_function gs (scope_of s.top) s.world.registers z.callee) (sym same) in
       let top : AlikeControl (after past (told p s)) s.next (resumed s xs).top (resumed t ys).top = resumed_alike past hist s t x xs ys comes k e in
       let old : s.top.serial < s.next = top.older in
-      rw (values, to)
-      (enter_alike past hist later s t xs ys c d (values_of p.program.globals (scope_of s.top) s.world.registers c.arguments) (function_named c.callee p.program.functions) (function_named d.callee gs) comes k
+      rw (values, to, callee)
+      (enter_alike past hist later s t xs ys (taking (scope_of s.top) c.to) (values_of p.program.globals (scope_of s.top) s.world.registers c.arguments)
+      (called_function p.program.functions (scope_of s.top) s.world.registers c.callee) (called_function gs (scope_of s.top) s.world.registers g.0.callee) comes k
       (record { number = top.number; source = top.source; function = top.function; rest = top.rest; end = top.end; serial = top.serial; takes = top.takes; fits = top.fits; older = omega (arith, old) })
-      (frames_on past s (s.next + 1) s.below t.below comes (omega arith) k.below) refl refl callees st)
+      (frames_on past s (s.next + 1) s.below t.below comes (omega arith) k.below) (λ h n. called_own p.program.functions (scope_of s.top) s.world.registers c.callee h n) g.4 st)
 
   -- ---- ends
 
-  jumped_alike : (past hist later : List Event) (s t : State) (n m : ℕ) (o r : Option Block) → Comes p input past s → (k : Alike past hist s t) → AreMade I k.top.number n o r → Matches (Alike (after past (told p s)) later) (jumped s n o) (jumped t m r)
-  jumped_alike past hist later s t n m None None comes k e = (output_same past hist s t k, refl)
-  jumped_alike past hist later s t n m None (Some c) comes k e = absurd e
-  jumped_alike past hist later s t n m (Some b) None comes k e = absurd e
-  jumped_alike past hist later s t n m (Some b) (Some c) comes k e = record {
+  jumped_alike : (past hist later : List Event) (s t : State) (o r : Option (ℕ × Block)) → Comes p input past s → (k : Alike past hist s t) → AreMade I k.top.number o r → Matches (Alike (after past (told p s)) later) (jumped s o) (jumped t r)
+  jumped_alike past hist later s t None None comes k e = (output_same past hist s t k, refl)
+  jumped_alike past hist later s t None (Some c) comes k e = absurd e
+  jumped_alike past hist later s t (Some b) None comes k e = absurd e
+  jumped_alike past hist later s t (Some (n, b)) (Some (m, c)) comes k e = record {
     top = record { number = k.top.number; source = k.top.source; function = k.top.function; rest = e.body; end = e.end; serial = k.top.serial; takes = k.top.takes; fits = spec.keeps past s s.top.serial k.top.number comes k.top.older k.top.fits; older = k.top.older };
     below = frames_on past s s.next s.below t.below comes (omega arith) k.below;
     world = k.world;
@@ -146,19 +144,9 @@ module _ (I : Instances) (Fits : List Event → ℕ → ℕ → Type 0) (p : Sea
   returned_alike past hist later s t v (f ∷ fs) (g ∷ hs) comes k e = record {
     top = control_on past s s.next f.control g.control comes (omega arith) e.0;
     below = frames_on past s s.next fs hs comes (omega arith) e.2;
-    world = λ i. record (k.world i) { cells = given (e.1 i) (k.top.takes i) v; memory = without_frame (k.top.serial i) (k.world i).memory };
+    world = λ i. record (k.world i) { registers = given (e.1 i) (k.top.takes i) v; memory = without_frame (k.top.serial i) (k.world i).memory };
     next = k.next;
   }
-
-  abbrev leaves : State → Exit → Reached
-  leaves s (ToLabel label) = jump s label
-  leaves s (Returns v) = returned s v s.below
-
-  finish_leaves : (globals : List Global) (e : End) (s : State) → finish globals e s ≡ leaves s (exit_of globals e s)
-  finish_leaves globals (Goto label) s = refl
-  finish_leaves globals (If x cmp y this that) s = refl
-  finish_leaves globals (Switch on cases other) s = refl
-  finish_leaves globals (Return operand) s = refl
 
   abbrev exit_in : List Global → End → Scope → World → Exit
   exit_in globals (Goto label) scope w = ToLabel label
@@ -177,18 +165,20 @@ module _ (I : Instances) (Fits : List Event → ℕ → ℕ → Type 0) (p : Sea
   exit_same : (globals : List Global) (e : End) (past hist : List Event) (s t : State) → Alike past hist s t → exit_of globals e t ≡ exit_of globals e s
   exit_same globals e past hist s t k = exit_is globals e t ∙ ((λ i. exit_in globals e (scope_same past s.next s.top t.top k.top i) (k.world i)) ∙ sym (exit_is globals e s))
 
-  leaves_alike : (past hist later : List Event) (s t : State) (x : Exit) → Comes p input past s → (k : Alike past hist s t) →
-      ((label : ℕ) → x ≡ ToLabel label → AreMade I k.top.number (place_or (block_place label s.top.function.blocks)) (block_at label s.top.function.blocks) (block_at label (I.blocks k.top.number))) → Matches (Alike (after past (told p s)) later) (leaves s x) (leaves t x)
-  leaves_alike past hist later s t (ToLabel label) comes k e =
-      subst (λ (f : Function). Matches (Alike (after past (told p s)) later) (jump s label) (jumped t (place_or (block_place label f.blocks)) (block_at label f.blocks))) (sym k.top.function)
-      (jumped_alike past hist later s t _ _ _ _ comes k (e label refl))
-  leaves_alike past hist later s t (Returns v) comes k e = returned_alike past hist later s t v s.below t.below comes k k.below
+  leave_alike : (past hist later : List Event) (s t : State) (x : Exit) → Comes p input past s → (k : Alike past hist s t) →
+      ((label : ℕ) → x ≡ ToLabel label → AreMade I k.top.number (labelled label s.top.function.blocks) (labelled label (I.blocks k.top.number))) → Matches (Alike (after past (told p s)) later) (leave s x) (leave t x)
+  leave_alike past hist later s t (ToLabel label) comes k e =
+      subst (λ (f : Function). Matches (Alike (after past (told p s)) later) (jump s label) (jumped t (labelled label f.blocks))) (sym k.top.function)
+      (jumped_alike past hist later s t (labelled label s.top.function.blocks) (labelled label (I.blocks k.top.number)) comes k (e label refl))
+  leave_alike past hist later s t (Returns v) comes k e = returned_alike past hist later s t v s.below t.below comes k k.below
 
-  finish_alike : (past hist later : List Event) (s t : State) → Comes p input past s → Alike past hist s t → s.top.rest ≡ [] → Matches (Alike (after past (told p s)) later) (finish p.program.globals s.top.end s) (finish p.program.globals t.top.end t)
+  finish_alike : (past hist later : List Event) (s t : State) → Comes p input past s → (k : Alike past hist s t) → s.top.rest ≡ [] → Matches (Alike (after past (told p s)) later) (finish p.program.globals s.top.end s) (finish made.program.globals t.top.end t)
   finish_alike past hist later s t comes k e =
-      subst (λ (z : End). Matches (Alike (after past (told p s)) later) (finish p.program.globals s.top.end s) (finish p.program.globals z t)) (sym k.top.end)
-      (rw (finish_leaves p.program.globals s.top.end s, finish_leaves p.program.globals (I.end k.top.number s.top.block s.top.end) t, exit_same p.program.globals (I.end k.top.number s.top.block s.top.end) past hist s t k, spec.end past s k.top.number comes k.top.source k.top.fits e)
-      (leaves_alike past hist later s t (exit_of p.program.globals s.top.end s) comes k (λ label x. spec.jump past s label k.top.number comes k.top.source k.top.fits e x)))
+      let same : exit_of p.program.globals t.top.end t ≡ exit_of p.program.globals s.top.end s =
+      ap (λ z. exit_of p.program.globals z t) k.top.end ∙
+      (exit_same p.program.globals (I.end k.top.number s.top.block s.top.end) past hist s t k ∙ spec.end past s k.top.number comes k.top.source k.top.fits e) in
+      subst (λ x. Matches (Alike (after past (told p s)) later) (leave s (exit_of p.program.globals s.top.end s)) (leave t x)) (sym same)
+      (leave_alike past hist later s t (exit_of p.program.globals s.top.end s) comes k (λ label x. spec.jump past s label k.top.number comes k.top.source k.top.fits e x))
 
   -- ---- the step
 
@@ -216,7 +206,7 @@ module _ (I : Instances) (Fits : List Event → ℕ → ℕ → Type 0) (p : Sea
       let first : State = record {
         top = control_made (I.source j) b 0 None;
         below = [];
-        world = record { cells = cells_made (I.source j).params [] 0 ++ cells_made (I.source j).registers [] 0; memory = with_locals p.program.structs 0 0 (I.source j).locals (with_globals p.program.structs p.program.globals 0 p.program.globals no_memory); input = input; taken = 0; output = [] };
+        world = record { registers = registers_made (I.source j) []; memory = with_locals p.program.structs 0 0 (I.source j).locals (first_memory p.program); input = input; taken = 0; output = [] };
         next = 1;
       } in record {
         top = record { number = j; source = refl; function = refl; rest = e.body; end = e.end; serial = refl; takes = refl; fits = fits first; older = omega arith };

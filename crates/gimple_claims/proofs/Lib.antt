@@ -25,3 +25,5 @@ pub mod TypedValues
 pub mod TypedStmts
 pub mod Typed
 pub mod Settled
+pub mod Blocks
+pub mod Callees

@@ -96,7 +96,7 @@ own_is known out functions f h =
     let c' = c ∙ ap (λ (x : Env). record x { registers = x.registers ++ registers_by_name f.registers }) b' in
     sym e ∙ ap (λ ls. record r.0 { labels = ls }) (labels_are [] u.0 f.blocks u.1) ∙ ap (λ (x : Env). record x { labels = map (λ b. b.label) f.blocks }) c'
 
-own_has_blocks : (known out : Env) (functions : Names Function) (f : Function) → d.own known functions f ≡ Ok out → d.has_blocks f.blocks ≡ true
+pub own_has_blocks : (known out : Env) (functions : Names Function) (f : Function) → d.own known functions f ≡ Ok out → d.has_blocks f.blocks ≡ true
 unfolding d.own
 own_has_blocks known out functions f h =
     let p = first_passed (d.registers (record known { locals = []; registers = []; labels = []; result = f.result }) functions f.params) _ out h in
