@@ -4,11 +4,13 @@ use Rattle.std.proofs.lemmas.Int.{ints}
 use Rattle.std.proofs.lemmas.Nat.{pow_pos}
 use Rattle.gimple_ir.specs.declared.scalar.Scalar.{Scalar}
 use Rattle.gimple_ir.specs.declared.value.Value.{Value}
-use Rattle.gimple_ir.specs.declared.value.Value.TheVariants.{Int as Number, Null as NullPointer, At}
+use Rattle.gimple_ir.specs.declared.value.Value.TheVariants.{Int as Number, Null as NullPointer, At, Code}
 use Rattle.gimple_ir.specs.declared.value.Object.TheVariants.{Global as GlobalObject, Local as LocalObject}
 use Rattle.gimple_ir.specs.declared.value.Constant.{Constant}
 use Rattle.gimple_ir.specs.declared.value.Constant.TheVariants.{Int, Null, Global}
 use Rattle.gimple_core.specs.Operators.{in_scalar}
+use Rattle.gimple_core.specs.Statements.{is_pointer}
+use Rattle.gimple_core.specs.State.{is_of}
 use Rattle.lattice_parts.specs.Sets.{Each}
 use Rattle.value_domain.specs.declared.bits.Bits.{Bits}
 use Rattle.value_domain.specs.declared.range.Range.{Range}
@@ -19,13 +21,14 @@ use Rattle.value_domain.specs.Bitmasks.{pattern, Agrees, IsBits}
 use Rattle.value_domain.specs.Ranges.{InRange, Within, FitsRange}
 use Rattle.value_domain.specs.RangeOperators.{IsInside, rounded}
 use Rattle.value_domain.specs.BitOperators.{unknown_bits, exact_bits}
-use Rattle.value_domain.specs.ConstantOperators.{is_pointer, constant_in}
+use Rattle.value_domain.specs.ConstantOperators.{constant_in}
 use Rattle.value_domain.specs.AbsOperators.{span_of, zero_range, bits_alone, range_alone, exactly_of}
 use Rattle.value_domain.specs.Values.{vals_capped, none_val}
 use Rattle.value_domain.specs.Thresholds.{IsLawful}
-use Rattle.value_domain.specs.Holding.{Holds, IsAmong, constant_of, number_part, value_of_scalar, mask_width, ValsOf}
+use Rattle.value_domain.specs.Holding.{Holds, IsAmong, constant_of, number_part, mask_width, ValsOf}
 use Rattle.value_domain.specs.Laws.{AloneHolds, AloneFits}
 use Rattle.value_domain.proofs.ScalarLemmas.{two, in_type}
+use Rattle.value_domain.proofs.ValuesOf.{of_number, of_null, of_address}
 use Rattle.value_domain.proofs.BitSoundness.{unknown_holds, exact_holds}
 use Rattle.value_domain.proofs.BitOrder.{exact_of}
 use Rattle.value_domain.proofs.RangeLaws.{round_holds, round_inside, round_fits}
@@ -110,20 +113,21 @@ module _ (ts : List ℤ) (law : IsLawful ts) (scalar : Scalar) where
       holds_alone most v c e is (subst (Agrees (pattern (number_part v))) (sym none) (unknown_holds (pattern (number_part v))))
       (subst (InRange (number_part v)) (sym at) (subst (λ z. InRange z zero_range) (sym zero) (record { from = omega (arith, ints); to = omega (arith, ints) })))
 
-  value_holds : (most : ℕ) (v : Value) (c : Constant) → value_of_scalar scalar v ≡ true → constant_of v ≡ Some c → Holds v (exactly_of scalar most ts c)
+  value_holds : (most : ℕ) (v : Value) (c : Constant) → is_of scalar v ≡ true → constant_of v ≡ Some c → Holds v (exactly_of scalar most ts c)
   value_holds most (Number z) c h is =
-      let t : (not (is_pointer scalar) ≡ true) × (in_scalar scalar z ≡ true) = two _ _ h in
+      let t = of_number scalar z h in
       let same : Int z ≡ c = cc in
       let i = point_inside scalar z t.1 in
-      subst (λ x. Holds (Number z) (exactly_of scalar most ts x)) same (holds_alone most (Number z) (Int z) h refl (exact_holds scalar z)
+      subst (λ x. Holds (Number z) (exactly_of scalar most ts x)) same (holds_alone most (Number z) (Int z) (rw t.0 t.1) refl (exact_holds scalar z)
       (round_holds ts law scalar (record { low = z; high = z }) z i (record { from = omega (arith, ints); to = omega (arith, ints) })))
   value_holds most NullPointer c h is =
       let same : Null ≡ c = cc in
-      subst (λ x. Holds NullPointer (exactly_of scalar most ts x)) same (zero_holds most NullPointer Null h refl refl refl refl)
+      subst (λ x. Holds NullPointer (exactly_of scalar most ts x)) same (zero_holds most NullPointer Null (of_null scalar h) refl refl refl refl)
   value_holds most (At (GlobalObject k) offset) c h is =
       let same : Global k offset ≡ c = cc in
-      subst (λ x. Holds (At (GlobalObject k) offset) (exactly_of scalar most ts x)) same (zero_holds most (At (GlobalObject k) offset) (Global k offset) h refl refl refl refl)
+      subst (λ x. Holds (At (GlobalObject k) offset) (exactly_of scalar most ts x)) same (zero_holds most (At (GlobalObject k) offset) (Global k offset) (of_address scalar (GlobalObject k) offset h) refl refl refl refl)
   value_holds most (At (LocalObject serial k) offset) c h is = cc
+  value_holds most (Code name) c h is = cc
 
 pub alone_holds : AloneHolds
 alone_holds most ts law scalar v c h is = value_holds ts law scalar most v c h is

@@ -8,6 +8,7 @@ use Rattle.std.proofs.Math.Nat.{mod-eq_of_lt}
 use Rattle.std.proofs.Math.Pow.{mod-mod-pow}
 use Rattle.gimple_ir.specs.declared.scalar.Scalar.{Scalar}
 use Rattle.gimple_ir.specs.declared.scalar.Scalar.TheVariants.{I8, I16, I32, I64, U8, U16, U32, U64, Ptr}
+use Rattle.gimple_ir.specs.declared.scalar.Mode.{Mode}
 use Rattle.gimple_ir.specs.declared.scalar.Cmp.{Cmp}
 use Rattle.gimple_ir.specs.declared.scalar.Op.{Op}
 use Rattle.gimple_ir.specs.declared.value.TrapKind.{TrapKind}
@@ -82,8 +83,8 @@ both_of scalar (Some z) (Some w) f h = h z w
 both_of scalar (Some z) None f h = unknown_of scalar
 both_of scalar None w f h = unknown_of scalar
 
-pub divided_of : (op : Op) (scalar : Scalar) (a b : Bits) → BitsOf scalar (divided_bits op scalar a b)
-divided_of op scalar a b = both_of scalar (number_of scalar a) (number_of scalar b) (λ z w. result_bits scalar (op_of op scalar z w)) (λ z w. result_of scalar (op_of op scalar z w))
+pub divided_of : (mode : Mode) (op : Op) (scalar : Scalar) (a b : Bits) → BitsOf scalar (divided_bits mode op scalar a b)
+divided_of mode op scalar a b = both_of scalar (number_of scalar a) (number_of scalar b) (λ z w. result_bits scalar (op_of mode op scalar z w)) (λ z w. result_of scalar (op_of mode op scalar z w))
 
 both_rises : (scalar : Scalar) (x y u v : Option ℤ) (f : ℤ → ℤ → Bits) → ((z w : ℤ) → IsBits (f z w)) → (u ≡ None) ⊎ (u ≡ x) → (v ≡ None) ⊎ (v ≡ y) → AreBelow (both_known x y f) (both_known u v f)
 both_rises scalar x y None v f i h k = below_unknown (both_known x y f)
@@ -98,8 +99,8 @@ both_rises scalar (Some x) (Some y) (Some u) (Some v) f i (inr h) (inr k) =
     let p : u ≡ x = cc in let q : v ≡ y = cc in
     subst (λ (n : ℤ). AreBelow (f x y) (f n v)) (sym p) (subst (λ (n : ℤ). AreBelow (f x y) (f x n)) (sym q) (below_same (f x y) (i x y)))
 
-pub divided_monotone : (op : Op) (scalar : Scalar) (a b c d : Bits) → BitsOf scalar a → BitsOf scalar b → AreBelow a c → AreBelow b d → AreBelow (divided_bits op scalar a b) (divided_bits op scalar c d)
-divided_monotone op scalar a b c d f g h k = both_rises scalar (number_of scalar a) (number_of scalar b) (number_of scalar c) (number_of scalar d) (λ z w. result_bits scalar (op_of op scalar z w)) (λ z w. (result_of scalar (op_of op scalar z w)).within) (number_same scalar a c f h) (number_same scalar b d g k)
+pub divided_monotone : (mode : Mode) (op : Op) (scalar : Scalar) (a b c d : Bits) → BitsOf scalar a → BitsOf scalar b → AreBelow a c → AreBelow b d → AreBelow (divided_bits mode op scalar a b) (divided_bits mode op scalar c d)
+divided_monotone mode op scalar a b c d f g h k = both_rises scalar (number_of scalar a) (number_of scalar b) (number_of scalar c) (number_of scalar d) (λ z w. result_bits scalar (op_of mode op scalar z w)) (λ z w. (result_of scalar (op_of mode op scalar z w)).within) (number_same scalar a c f h) (number_same scalar b d g k)
 
 -- ---- the low bits
 pub known_within : (scalar : Scalar) (a b : Bits) → a.mask < modulus_of scalar → low_known a b ≤ bits_of scalar

@@ -8,6 +8,8 @@ use Rattle.std.proofs.lemmas.Nat.Bits.{bit_at_and, bit_at_xor, bit_at-lt, bit_at
 use Rattle.std.proofs.Math.Nat.{mod-eq_of_lt, pow-le-pow_right}
 use Rattle.gimple_ir.specs.declared.scalar.Scalar.{Scalar}
 use Rattle.gimple_ir.specs.declared.scalar.Scalar.TheVariants.{I8, I16, I32, I64, U8, U16, U32, U64, Ptr}
+use Rattle.gimple_ir.specs.declared.scalar.Mode.{Mode}
+use Rattle.gimple_ir.specs.declared.scalar.Mode.TheVariants.{Trap, Wrap}
 use Rattle.gimple_ir.specs.declared.scalar.Cmp.{Cmp}
 use Rattle.gimple_ir.specs.declared.scalar.Cmp.TheVariants.{Eq, Ne, Lt, Le, Gt, Ge}
 use Rattle.gimple_ir.specs.declared.value.TrapKind.TheVariants.{Overflow}
@@ -90,13 +92,14 @@ xor_holds scalar z w a b f g h k = let r = xor_of scalar a b f g in from_low_bit
 abbrev pub SameBits : Scalar → ℤ → ℤ → Type 0
 SameBits scalar x y = (i : ℕ) → i < bits_of scalar → bit_of x i ≡ bit_of y i
 
-pub kept_bits : (scalar : Scalar) (y x : ℤ) → kept scalar y ≡ okay x → SameBits scalar x y
-kept_bits scalar y x e = by (is_signed scalar) (in_scalar scalar y) e
+pub kept_bits : (mode : Mode) (scalar : Scalar) (y x : ℤ) → kept mode scalar y ≡ okay x → SameBits scalar x y
+kept_bits Trap scalar y x e = by (is_signed scalar) (in_scalar scalar y) e
   where
     by : (s t : Bool) → cond s (cond t (okay y) (Err Overflow)) (okay (wrapped scalar y)) ≡ okay x → SameBits scalar x y
     by true true f = let g : y ≡ x = cc in λ i l. ap (λ (z : ℤ). bit_of z i) (sym g)
     by true false f = cc
     by false t f = let g : wrapped scalar y ≡ x = cc in λ i l. ap (λ (z : ℤ). bit_of z i) (sym g) ∙ wrapped_bit scalar y i l
+kept_bits Wrap scalar y x e = let g : wrapped scalar y ≡ x = cc in λ i l. ap (λ (z : ℤ). bit_of z i) (sym g) ∙ wrapped_bit scalar y i l
 
 pow_le : (t w : ℕ) → t ≤ w → 2 ^ t ≤ 2 ^ w
 pow_le t w h = pow-le-pow_right {n = 2} (omega arith) h

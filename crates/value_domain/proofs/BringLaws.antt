@@ -1,5 +1,5 @@
 -- Values brought into a scalar.
-use Rattle.std.proofs.Common.{cond, ◌≡◌, ℕ, ◌%◌, ◌^◌, ◌<◌, ◌≤◌, ℤ, pos, min, not, ◌&&◌, ◌≤ℤ◌, inl, inr, Bool, true, false, refl, sym, ◌∙◌, ap, subst, int_le, arith, bit_and, List, [], ◌∷◌, length, Option, Some, None}
+use Rattle.std.proofs.Common.{cond, ◌≡◌, ℕ, ◌%◌, ◌^◌, ◌<◌, ◌≤◌, ℤ, pos, min, ◌≤ℤ◌, inl, inr, Bool, true, false, refl, sym, ◌∙◌, ap, subst, int_le, arith, bit_and, List, [], ◌∷◌, length, Option, Some, None}
 use Rattle.std.specs.Int.{int_min, int_max, bit_at}
 use Rattle.std.proofs.lemmas.Int.{ints, clamps}
 use Rattle.std.proofs.lemmas.Bool.{le-leb}
@@ -7,11 +7,13 @@ use Rattle.std.proofs.lemmas.Nat.{mod_below, and_mod, and_le_r}
 use Rattle.std.proofs.Math.Nat.{mod-eq_of_lt}
 use Rattle.gimple_ir.specs.declared.scalar.Scalar.{Scalar}
 use Rattle.gimple_ir.specs.declared.value.Value.{Value}
-use Rattle.gimple_ir.specs.declared.value.Value.TheVariants.{Int as Number, Null as NullPointer, At}
+use Rattle.gimple_ir.specs.declared.value.Value.TheVariants.{Int as Number, Null as NullPointer, At, Code}
 use Rattle.gimple_ir.specs.declared.value.Object.TheVariants.{Global as GlobalObject, Local as LocalObject}
 use Rattle.gimple_ir.specs.declared.value.Constant.{Constant}
 use Rattle.gimple_ir.specs.declared.value.Constant.TheVariants.{Int, Null, Global}
-use Rattle.gimple_core.specs.Operators.{in_scalar, bits_of, modulus_of}
+use Rattle.gimple_core.specs.Operators.{bits_of, modulus_of}
+use Rattle.gimple_core.specs.Statements.{is_pointer}
+use Rattle.gimple_core.specs.State.{is_of}
 use Rattle.lattice_parts.specs.Sets.{Has, kept_members}
 use Rattle.value_domain.specs.declared.bits.Bits.{Bits}
 use Rattle.value_domain.specs.declared.range.Range.{Range}
@@ -24,14 +26,15 @@ use Rattle.value_domain.specs.Ranges.{InRange, InEach, Within, WithinEach, FitsR
 use Rattle.value_domain.specs.RangeOperators.{type_range}
 use Rattle.value_domain.specs.FitLemmas.{le_tells, meet_holds, meet_monotone}
 use Rattle.value_domain.specs.BitOperators.{unknown_bits}
-use Rattle.value_domain.specs.ConstantOperators.{is_pointer, constant_in, vals_of, kept_vals}
+use Rattle.value_domain.specs.ConstantOperators.{constant_in, vals_of, kept_vals}
 use Rattle.value_domain.specs.AbsOperators.{assembled, zero_range, span_of, bits_in, range_in, brought_into}
 use Rattle.value_domain.specs.Values.{FitsVals, is_none_val, none_val, abs_val_below}
 use Rattle.value_domain.specs.ValueLemmas.{abs_apart}
 use Rattle.value_domain.specs.Thresholds.{IsLawful}
-use Rattle.value_domain.specs.Holding.{constant_of, number_part, value_of_scalar, ValsOf}
+use Rattle.value_domain.specs.Holding.{constant_of, number_part, ValsOf}
 use Rattle.value_domain.specs.Laws.{BroughtHolds, BroughtFits, BroughtRises, BroughtSame}
 use Rattle.value_domain.proofs.ScalarLemmas.{in_type, halves, type_zero}
+use Rattle.value_domain.proofs.ValuesOf.{of_number, of_null, of_address, of_function}
 use Rattle.value_domain.proofs.TwosLemmas.{mod_bit}
 use Rattle.value_domain.proofs.AgreeLemmas.{agrees_by}
 use Rattle.value_domain.proofs.BitSoundness.{unknown_holds}
@@ -175,11 +178,12 @@ brought_same most ts scalar a (inr p) (inr q) = rw (p.full) (whole_same a _ _ _ 
 
 -- ---- it holds the scalar's values
 
-constant_stays : (scalar : Scalar) (v : Value) (c : Constant) → value_of_scalar scalar v ≡ true → constant_of v ≡ Some c → constant_in scalar c ≡ true
-constant_stays scalar (Number z) c h e = let same : Int z ≡ c = cc in subst (λ d. constant_in scalar d ≡ true) same h
-constant_stays scalar NullPointer c h e = let same : Null ≡ c = cc in subst (λ d. constant_in scalar d ≡ true) same h
-constant_stays scalar (At (GlobalObject k) offset) c h e = let same : Global k offset ≡ c = cc in subst (λ d. constant_in scalar d ≡ true) same h
+constant_stays : (scalar : Scalar) (v : Value) (c : Constant) → is_of scalar v ≡ true → constant_of v ≡ Some c → constant_in scalar c ≡ true
+constant_stays scalar (Number z) c h e = let same : Int z ≡ c = cc in let f = of_number scalar z h in subst (λ d. constant_in scalar d ≡ true) same (rw f.0 f.1)
+constant_stays scalar NullPointer c h e = let same : Null ≡ c = cc in subst (λ d. constant_in scalar d ≡ true) same (of_null scalar h)
+constant_stays scalar (At (GlobalObject k) offset) c h e = let same : Global k offset ≡ c = cc in subst (λ d. constant_in scalar d ≡ true) same (of_address scalar (GlobalObject k) offset h)
 constant_stays scalar (At (LocalObject serial k) offset) c h e = cc
+constant_stays scalar (Code name) c h e = cc
 
 cut_holds : (scalar : Scalar) (n : ℕ) (b : Bits) → Agrees n b → Agrees n (record { mask = b.mask % modulus_of scalar; value = b.value % modulus_of scalar })
 cut_holds scalar n b h =
@@ -194,14 +198,11 @@ bits_stay scalar n b h = by (is_pointer scalar)
     by true = unknown_holds n
     by false = cut_holds scalar n b h
 
-range_stays : (scalar : Scalar) (v : Value) (r : Range) → value_of_scalar scalar v ≡ true → InRange (number_part v) r → InEach (number_part v) (range_in scalar r)
-range_stays scalar (Number z) r h i = by (is_pointer scalar) h
-  where
-    by : (b : Bool) → (not b && in_scalar scalar z) ≡ true → InEach z (cond b (Some zero_range) (meet_range (type_range scalar) r))
-    by true k = cc
-    by false k = meet_holds (type_range scalar) r z (in_type scalar z k) i
-range_stays scalar NullPointer r h i = rw h (record { from = omega (arith, ints); to = omega (arith, ints) })
-range_stays scalar (At object offset) r h i = rw h (record { from = omega (arith, ints); to = omega (arith, ints) })
+range_stays : (scalar : Scalar) (v : Value) (r : Range) → is_of scalar v ≡ true → InRange (number_part v) r → InEach (number_part v) (range_in scalar r)
+range_stays scalar (Number z) r h i = let f = of_number scalar z h in rw f.0 (meet_holds (type_range scalar) r z (in_type scalar z f.1) i)
+range_stays scalar NullPointer r h i = rw (of_null scalar h) (record { from = omega (arith, ints); to = omega (arith, ints) })
+range_stays scalar (At object offset) r h i = rw (of_address scalar object offset h) (record { from = omega (arith, ints); to = omega (arith, ints) })
+range_stays scalar (Code name) r h i = rw (of_function scalar name h) (record { from = omega (arith, ints); to = omega (arith, ints) })
 
 pub brought_holds : BroughtHolds
 unfolding brought_into

@@ -5,11 +5,12 @@ use Rattle.gimple_ir.specs.declared.scalar.Scalar.{Scalar}
 use Rattle.gimple_ir.specs.declared.scalar.Op.{Op}
 use Rattle.gimple_ir.specs.declared.scalar.Op.TheVariants.{Add, Sub, Mul, Div, Rem, And, Or, Xor, Shl, Shr}
 use Rattle.gimple_core.specs.Operators.{IsWord, IsRightSide, is_signed, half_of, bits_of}
+use Rattle.gimple_core.specs.Statements.{is_pointer}
 use Rattle.value_domain.specs.declared.range.Range.{Range}
 use Rattle.value_domain.specs.declared.abs_val.AbsVal.{AbsVal}
 use Rattle.value_domain.specs.Ranges.{Within}
 use Rattle.value_domain.specs.RangeOperators.{IsInside, IsWords, IsSignedWords, lowest, highest}
-use Rattle.value_domain.specs.ConstantOperators.{is_pointer, may_stand_right}
+use Rattle.value_domain.specs.ConstantOperators.{may_stand_right}
 use Rattle.value_domain.specs.AbsOperators.{span_of, zero_range}
 use Rattle.value_domain.specs.Values.{none_val, is_none_val, FitsWith}
 use Rattle.value_domain.specs.ValueLemmas.{abs_apart}

@@ -1,15 +1,17 @@
 -- Comparisons and conversions of abstract values: they hold the results, are monotone and fit.
-use Rattle.std.proofs.Common.{cond, ◌≡◌, ℕ, ◌^◌, ◌<◌, ℤ, pos, ◌≤ℤ◌, Bool, true, false, not, ◌&&◌, refl, sym, ◌∙◌, ap, subst, arith, List, Some}
+use Rattle.std.proofs.Common.{cond, ◌≡◌, ℕ, ◌^◌, ◌<◌, ℤ, pos, ◌≤ℤ◌, Bool, true, false, refl, sym, ◌∙◌, ap, subst, arith, List, Some}
 use Rattle.std.proofs.lemmas.Int.{ints}
 use Rattle.gimple_ir.specs.declared.scalar.Scalar.{Scalar}
 use Rattle.gimple_ir.specs.declared.scalar.Cmp.{Cmp}
 use Rattle.gimple_ir.specs.declared.value.Value.{Value}
-use Rattle.gimple_ir.specs.declared.value.Value.TheVariants.{Int as Number, Null as NullPointer, At}
+use Rattle.gimple_ir.specs.declared.value.Value.TheVariants.{Int as Number, Null as NullPointer, At, Code}
 use Rattle.gimple_ir.specs.declared.value.Object.TheVariants.{Global as GlobalObject, Local as LocalObject}
 use Rattle.gimple_ir.specs.declared.value.Constant.{Constant}
 use Rattle.gimple_ir.specs.declared.value.Constant.TheVariants.{Int, Null, Global}
-use Rattle.gimple_core.specs.Operators.{in_scalar, wrapped, cmp_of}
+use Rattle.gimple_core.specs.Operators.{wrapped, cmp_of}
 use Rattle.gimple_core.specs.Run.{compares, pointers_compare, one_if, converted}
+use Rattle.gimple_core.specs.Statements.{is_pointer}
+use Rattle.gimple_core.specs.State.{is_of}
 use Rattle.value_domain.specs.declared.bits.Bits.{Bits}
 use Rattle.value_domain.specs.declared.range.Range.{Range}
 use Rattle.value_domain.specs.declared.vals.Vals.{Vals}
@@ -18,12 +20,13 @@ use Rattle.value_domain.specs.Bitmasks.{pattern, Agrees, AreBelow}
 use Rattle.value_domain.specs.Ranges.{InRange, Within, FitsRange}
 use Rattle.value_domain.specs.RangeOperators.{type_range, rounded, cmp_range, convert_range}
 use Rattle.value_domain.specs.BitOperators.{truth, some_truth, cmp_bits, converted_bits}
-use Rattle.value_domain.specs.ConstantOperators.{is_pointer, constant_in, cmp_constant, compared_constants, same_constant, convert_constant, pairs_vals, mapped_vals}
+use Rattle.value_domain.specs.ConstantOperators.{constant_in, cmp_constant, compared_constants, same_constant, convert_constant, pairs_vals, mapped_vals}
 use Rattle.value_domain.specs.AbsOperators.{assembled, span_of, either_range, bits_compared, range_compared}
 use Rattle.value_domain.specs.Values.{FitsVals, abs_val_below}
 use Rattle.value_domain.specs.Thresholds.{IsLawful}
-use Rattle.value_domain.specs.Holding.{Holds, IsAmong, constant_of, value_of_scalar}
+use Rattle.value_domain.specs.Holding.{Holds, IsAmong, constant_of}
 use Rattle.value_domain.proofs.ScalarLemmas.{in_type, in_type_is, type_zero, wrapped_in}
+use Rattle.value_domain.proofs.ValuesOf.{of_number}
 use Rattle.value_domain.proofs.AgreeLemmas.{BitsOf}
 use Rattle.value_domain.proofs.BitSoundness.{truth_holds, cmp_holds as cmp_bits_hold, convert_holds as convert_bits_hold}
 use Rattle.value_domain.proofs.BitOrder.{some_truth_of, cmp_of_width, cmp_monotone as cmp_bits_monotone, convert_of, convert_monotone as convert_bits_monotone, below_same}
@@ -88,7 +91,7 @@ module _ (most : ℕ) (ts : List ℤ) (law : IsLawful ts) (target : Scalar) (cmp
       })
 
   -- numbers
-  pub cmp_int_holds : is_pointer scalar ≡ false → (a b : AbsVal) (v w : Value) → ProperOf most ts scalar a → ProperOf most ts scalar b → value_of_scalar scalar v ≡ true → value_of_scalar scalar w ≡ true → Holds v a → Holds w b → Holds (one_if (compares v cmp w)) (assembled (pairs_vals most (cmp_constant cmp) a.vals b.vals) (Some (bits_compared target cmp scalar a.bits b.bits)) (Some (range_compared cmp scalar a.range b.range)))
+  pub cmp_int_holds : is_pointer scalar ≡ false → (a b : AbsVal) (v w : Value) → ProperOf most ts scalar a → ProperOf most ts scalar b → is_of scalar v ≡ true → is_of scalar w ≡ true → Holds v a → Holds w b → Holds (one_if (compares v cmp w)) (assembled (pairs_vals most (cmp_constant cmp) a.vals b.vals) (Some (bits_compared target cmp scalar a.bits b.bits)) (Some (range_compared cmp scalar a.range b.range)))
   cmp_int_holds p a b v w f g e k h m =
       let z = number_value scalar v p e in
       let u = number_value scalar w p k in
@@ -111,33 +114,25 @@ module _ (most : ℕ) (ts : List ℤ) (law : IsLawful ts) (target : Scalar) (cmp
       range_is p x y = rw p refl
 
   -- pointers
-  ptr_vals : (v w : Value) (x y : Vals) → value_of_scalar scalar v ≡ true → value_of_scalar scalar w ≡ true → is_pointer scalar ≡ true → IsAmong (constant_of v) x → IsAmong (constant_of w) y → IsAmong (Some (Int (truth (compares v cmp w)))) (pairs_vals most (cmp_constant cmp) x y)
+  no_number : (z : ℤ) → is_of scalar (Number z) ≡ true → is_pointer scalar ≡ true → ⊥
+  no_number z e p = let c : true ≡ false = sym p ∙ (of_number scalar z e).0 in cc
+
+  ptr_vals : (v w : Value) (x y : Vals) → is_of scalar v ≡ true → is_of scalar w ≡ true → is_pointer scalar ≡ true → IsAmong (constant_of v) x → IsAmong (constant_of w) y → IsAmong (Some (Int (truth (compares v cmp w)))) (pairs_vals most (cmp_constant cmp) x y)
   unfolding compares
   ptr_vals (Number z) w x y e k p h m = absurd (no_number z e p)
-    where
-      no_number : (z : ℤ) → (not (is_pointer scalar) && in_scalar scalar z) ≡ true → is_pointer scalar ≡ true → ⊥
-      no_number z e p = by (is_pointer scalar) e p
-        where
-          by : (b : Bool) → (not b && in_scalar scalar z) ≡ true → b ≡ true → ⊥
-          by true e p = cc
-          by false e p = cc
   ptr_vals v (Number z) x y e k p h m = absurd (no_number z k p)
-    where
-      no_number : (z : ℤ) → (not (is_pointer scalar) && in_scalar scalar z) ≡ true → is_pointer scalar ≡ true → ⊥
-      no_number z e p = by (is_pointer scalar) e p
-        where
-          by : (b : Bool) → (not b && in_scalar scalar z) ≡ true → b ≡ true → ⊥
-          by true e p = cc
-          by false e p = cc
   ptr_vals NullPointer NullPointer x y e k p h m = pairs_hold most (cmp_constant cmp) x y Null Null (Int (truth (pointers_compare cmp (same_constant Null Null)))) h m refl
   ptr_vals NullPointer (At (GlobalObject j) o) x y e k p h m = pairs_hold most (cmp_constant cmp) x y Null (Global j o) (Int (truth (pointers_compare cmp (same_constant Null (Global j o))))) h m refl
   ptr_vals NullPointer (At (LocalObject s j) o) x y e k p h m = none_right most (cmp_constant cmp) x y (Some (Int (truth (compares NullPointer cmp (At (LocalObject s j) o))))) m
   ptr_vals (At (GlobalObject i) n) NullPointer x y e k p h m = pairs_hold most (cmp_constant cmp) x y (Global i n) Null (Int (truth (pointers_compare cmp (same_constant (Global i n) Null)))) h m refl
   ptr_vals (At (GlobalObject i) n) (At (GlobalObject j) o) x y e k p h m = pairs_hold most (cmp_constant cmp) x y (Global i n) (Global j o) (Int (truth (pointers_compare cmp (same_constant (Global i n) (Global j o))))) h m refl
   ptr_vals (At (GlobalObject i) n) (At (LocalObject s j) o) x y e k p h m = none_right most (cmp_constant cmp) x y (Some (Int (truth (compares (At (GlobalObject i) n) cmp (At (LocalObject s j) o))))) m
+  ptr_vals NullPointer (Code g) x y e k p h m = none_right most (cmp_constant cmp) x y (Some (Int (truth (compares NullPointer cmp (Code g))))) m
+  ptr_vals (At (GlobalObject i) n) (Code g) x y e k p h m = none_right most (cmp_constant cmp) x y (Some (Int (truth (compares (At (GlobalObject i) n) cmp (Code g))))) m
+  ptr_vals (Code f) w x y e k p h m = none_left most (cmp_constant cmp) x y (Some (Int (truth (compares (Code f) cmp w)))) h
   ptr_vals (At (LocalObject s i) n) w x y e k p h m = none_left most (cmp_constant cmp) x y (Some (Int (truth (compares (At (LocalObject s i) n) cmp w)))) h
 
-  pub cmp_ptr_holds : is_pointer scalar ≡ true → (a b : AbsVal) (v w : Value) → value_of_scalar scalar v ≡ true → value_of_scalar scalar w ≡ true → Holds v a → Holds w b → Holds (one_if (compares v cmp w)) (assembled (pairs_vals most (cmp_constant cmp) a.vals b.vals) (Some (bits_compared target cmp scalar a.bits b.bits)) (Some (range_compared cmp scalar a.range b.range)))
+  pub cmp_ptr_holds : is_pointer scalar ≡ true → (a b : AbsVal) (v w : Value) → is_of scalar v ≡ true → is_of scalar w ≡ true → Holds v a → Holds w b → Holds (one_if (compares v cmp w)) (assembled (pairs_vals most (cmp_constant cmp) a.vals b.vals) (Some (bits_compared target cmp scalar a.bits b.bits)) (Some (range_compared cmp scalar a.range b.range)))
   cmp_ptr_holds p a b v w e k h m =
       let R = assembled (pairs_vals most (cmp_constant cmp) a.vals b.vals) (Some (bits_compared target cmp scalar a.bits b.bits)) (Some (range_compared cmp scalar a.range b.range)) in
       let t = compares v cmp w in
@@ -189,7 +184,7 @@ module _ (most : ℕ) (ts : List ℤ) (law : IsLawful ts) (target source : Scala
         range = λ r e. let s : rounded ts (convert_range target a.range) ≡ r = cc in (subst (FitsRange ts) s (round_fits ts law target (convert_range target a.range) i), subst (λ x. Within x (span_of target)) s (subst (Within (rounded ts (convert_range target a.range))) (sym (span_is target q)) (record { low = n.low; high = n.high })));
       })
 
-  pub convert_holds : (a : AbsVal) (v : Value) → ProperOf most ts source a → value_of_scalar source v ≡ true → Holds v a → Holds (converted target v) (assembled (mapped_vals most (convert_constant target) a.vals) (Some (converted_bits target source a.bits)) (Some (rounded ts (convert_range target a.range))))
+  pub convert_holds : (a : AbsVal) (v : Value) → ProperOf most ts source a → is_of source v ≡ true → Holds v a → Holds (converted target v) (assembled (mapped_vals most (convert_constant target) a.vals) (Some (converted_bits target source a.bits)) (Some (rounded ts (convert_range target a.range))))
   convert_holds a v f e h =
       let z = number_value source v p e in
       let h2 : Holds (Number z.0) a = subst (λ y. Holds y a) z.1 h in

@@ -1,35 +1,47 @@
 -- Intervals fitted to a scalar: sound for results that do not trap, monotone, and of the scalar.
-use Rattle.std.proofs.Common.{cond, ◌≡◌, ◌/◌, ◌≤◌, ℤ, pos, negsuc, ◌≤ℤ◌, ◌<ℤ◌, ◌⊎◌, inl, inr, Bool, true, false, refl, sym, ◌∙◌, subst, int_le, int_div, arith, Option, Some, None, Err}
+use Rattle.std.proofs.Common.{cond, ◌≡◌, ℤ, ◌≤ℤ◌, ◌<ℤ◌, ◌⊎◌, inl, inr, Bool, true, false, refl, sym, ◌∙◌, subst, int_le, int_div, arith, Option, Some, None, Err}
 use Rattle.std.specs.Int.{int_min, int_max}
 use Rattle.std.proofs.lemmas.Int.{ints, clamps}
-use Rattle.std.proofs.Math.Nat.{div-le_self}
+use Rattle.gimple_ir.specs.declared.scalar.Mode.{Mode}
+use Rattle.gimple_ir.specs.declared.scalar.Mode.TheVariants.{Trap, Wrap}
 use Rattle.gimple_ir.specs.declared.scalar.Scalar.{Scalar}
 use Rattle.gimple_ir.specs.declared.value.TrapKind.TheVariants.{Overflow}
-use Rattle.gimple_core.specs.Operators.{is_signed, in_scalar, least_of, greatest_of, kept, wrapped}
+use Rattle.gimple_core.specs.Operators.{in_scalar, least_of, greatest_of, within, kept, wrapped}
 use Rattle.value_domain.specs.declared.range.Range.{Range}
 use Rattle.value_domain.specs.Ranges.{InRange, WithinEach, InEach, IsHull, EndsReached}
-use Rattle.value_domain.specs.RangeOperators.{IsInside, type_range, meet_each, whole_each, fitted}
+use Rattle.value_domain.specs.RangeOperators.{IsInside, type_range, meet_each, whole_each, traps_outside, fitted}
 use Rattle.value_domain.specs.FitLemmas.{le_tells, meet_holds, meet_monotone, whole_monotone, unless_cases}
-use Rattle.value_domain.proofs.ScalarLemmas.{okay, in_type, wrapped_same, wrapped_in, type_zero, neg_below}
+use Rattle.value_domain.proofs.ScalarLemmas.{okay, in_type, wrapped_same, wrapped_in, type_zero}
 
 pub okay_same : (y x : ℤ) → okay y ≡ okay x → y ≡ x
 okay_same y x e = cc
 
--- an exact result that is kept lies in a signed scalar, and is wrapped into an unsigned one
-pub kept_cases : (scalar : Scalar) (y x : ℤ) → kept scalar y ≡ okay x → ((is_signed scalar ≡ true) × InRange y (type_range scalar) × (y ≡ x)) ⊎ ((is_signed scalar ≡ false) × (wrapped scalar y ≡ x))
-kept_cases scalar y x h = by (is_signed scalar) (in_scalar scalar y) refl refl h
+-- a result that does not trap outside its scalar lies in it
+pub within_is : (scalar : Scalar) (y x : ℤ) → within scalar y ≡ okay x → InRange y (type_range scalar) × (y ≡ x)
+within_is scalar y x h = by (in_scalar scalar y) refl h
   where
-    by : (s t : Bool) → is_signed scalar ≡ s → in_scalar scalar y ≡ t → cond s (cond t (okay y) (Err Overflow)) (okay (wrapped scalar y)) ≡ okay x → ((is_signed scalar ≡ true) × InRange y (type_range scalar) × (y ≡ x)) ⊎ ((is_signed scalar ≡ false) × (wrapped scalar y ≡ x))
-    by true true e f k = inl (e, in_type scalar y f, okay_same y x k)
-    by true false e f k = cc
-    by false t e f k = inr (e, okay_same (wrapped scalar y) x k)
+    by : (t : Bool) → in_scalar scalar y ≡ t → cond t (okay y) (Err Overflow) ≡ okay x → InRange y (type_range scalar) × (y ≡ x)
+    by true f k = (in_type scalar y f, okay_same y x k)
+    by false f k = cc
+
+pub kept_is : (mode : Mode) (scalar : Scalar) (y : ℤ) → kept mode scalar y ≡ cond (traps_outside mode scalar) (within scalar y) (okay (wrapped scalar y))
+kept_is Trap scalar y = refl
+kept_is Wrap scalar y = refl
+
+-- an exact result that is kept lies in a scalar outside which it traps, and is wrapped into any other
+pub kept_cases : (mode : Mode) (scalar : Scalar) (y x : ℤ) → kept mode scalar y ≡ okay x → ((traps_outside mode scalar ≡ true) × InRange y (type_range scalar) × (y ≡ x)) ⊎ ((traps_outside mode scalar ≡ false) × (wrapped scalar y ≡ x))
+kept_cases mode scalar y x h = by (traps_outside mode scalar) refl (sym (kept_is mode scalar y) ∙ h)
+  where
+    by : (s : Bool) → traps_outside mode scalar ≡ s → cond s (within scalar y) (okay (wrapped scalar y)) ≡ okay x → ((traps_outside mode scalar ≡ true) × InRange y (type_range scalar) × (y ≡ x)) ⊎ ((traps_outside mode scalar ≡ false) × (wrapped scalar y ≡ x))
+    by true e k = let w = within_is scalar y x k in inl (e, w.0, w.1)
+    by false e k = inr (e, okay_same (wrapped scalar y) x k)
 
 pub choose : (b : Bool) (P : Option Range → Type 0) (x y : Option Range) → (b ≡ true → P x) → (b ≡ false → P y) → P (cond b x y)
 choose true P x y h k = h refl
 choose false P x y h k = k refl
 
-fit_cases : (scalar : Scalar) (o : Option Range) (P : Option Range → Type 0) → (is_signed scalar ≡ true → P (meet_each (type_range scalar) o)) → (is_signed scalar ≡ false → P (whole_each (type_range scalar) o)) → P (fitted scalar o)
-fit_cases scalar o P h k = choose (is_signed scalar) P (meet_each (type_range scalar) o) (whole_each (type_range scalar) o) h k
+fit_cases : (mode : Mode) (scalar : Scalar) (o : Option Range) (P : Option Range → Type 0) → (traps_outside mode scalar ≡ true → P (meet_each (type_range scalar) o)) → (traps_outside mode scalar ≡ false → P (whole_each (type_range scalar) o)) → P (fitted mode scalar o)
+fit_cases mode scalar o P h k = choose (traps_outside mode scalar) P (meet_each (type_range scalar) o) (whole_each (type_range scalar) o) h k
 
 meets : (scalar : Scalar) (o : Option Range) (y : ℤ) → InRange y (type_range scalar) → InEach y o → InEach y (meet_each (type_range scalar) o)
 meets scalar None y h k = k
@@ -45,25 +57,14 @@ differ : (b : Bool) → b ≡ true → b ≡ false → ⊥
 differ true e f = cc
 differ false e f = cc
 
-pub fitted_holds : (scalar : Scalar) (o : Option Range) (y x : ℤ) → kept scalar y ≡ okay x → InEach y o → InEach x (fitted scalar o)
-fitted_holds scalar o y x h k = fit_cases scalar o (InEach x)
-    (λ s. elim (kept_cases scalar y x h) [ inl c ↦ subst (λ (z : ℤ). InEach z (meet_each (type_range scalar) o)) c.2 (meets scalar o y c.1 k) | inr c ↦ absurd (differ (is_signed scalar) s c.0) ])
-    (λ s. elim (kept_cases scalar y x h) [ inl c ↦ absurd (differ (is_signed scalar) c.0 s) | inr c ↦ subst (λ (z : ℤ). InEach z (whole_each (type_range scalar) o)) c.1 (wraps scalar o y k) ])
+pub fitted_holds : (mode : Mode) (scalar : Scalar) (o : Option Range) (y x : ℤ) → kept mode scalar y ≡ okay x → InEach y o → InEach x (fitted mode scalar o)
+fitted_holds mode scalar o y x h k = fit_cases mode scalar o (InEach x)
+    (λ s. elim (kept_cases mode scalar y x h) [ inl c ↦ subst (λ (z : ℤ). InEach z (meet_each (type_range scalar) o)) c.2 (meets scalar o y c.1 k) | inr c ↦ absurd (differ (traps_outside mode scalar) s c.0) ])
+    (λ s. elim (kept_cases mode scalar y x h) [ inl c ↦ absurd (differ (traps_outside mode scalar) c.0 s) | inr c ↦ subst (λ (z : ℤ). InEach z (whole_each (type_range scalar) o)) c.1 (wraps scalar o y k) ])
 
--- a quotient that is kept lies in the scalar
-quotient_in : (scalar : Scalar) (z w : ℤ) → is_signed scalar ≡ false → InRange z (type_range scalar) → InRange w (type_range scalar) → InRange (int_div z w) (type_range scalar)
-quotient_in scalar (negsuc n) w s h k = absurd (differ (is_signed scalar) (neg_below scalar n h).0 s)
-quotient_in scalar (pos n) (negsuc m) s h k = absurd (differ (is_signed scalar) (neg_below scalar m k).0 s)
-quotient_in scalar (pos n) (pos m) s h k =
-    let e : n / m ≤ n = div-le_self n m in
-    let t = type_zero scalar in
-    record { from = omega (arith, ints, t.0); to = omega (arith, ints, h.to) }
-
-pub divided_holds : (scalar : Scalar) (o : Option Range) (z w x : ℤ) → InRange z (type_range scalar) → InRange w (type_range scalar) → kept scalar (int_div z w) ≡ okay x → InEach (int_div z w) o → InEach x (meet_each (type_range scalar) o)
-divided_holds scalar o z w x h k e i = elim (kept_cases scalar (int_div z w) x e) [
-  | inl c ↦ subst (λ (y : ℤ). InEach y (meet_each (type_range scalar) o)) c.2 (meets scalar o (int_div z w) c.1 i)
-  | inr c ↦ let q = quotient_in scalar z w c.0 h k in subst (λ (y : ℤ). InEach y (meet_each (type_range scalar) o)) (sym (wrapped_same scalar (int_div z w) q) ∙ c.1) (meets scalar o (int_div z w) q i)
-]
+-- a quotient that does not trap lies in the scalar
+pub divided_holds : (scalar : Scalar) (o : Option Range) (z w x : ℤ) → within scalar (int_div z w) ≡ okay x → InEach (int_div z w) o → InEach x (meet_each (type_range scalar) o)
+divided_holds scalar o z w x e i = let c = within_is scalar (int_div z w) x e in subst (λ (y : ℤ). InEach y (meet_each (type_range scalar) o)) c.1 (meets scalar o (int_div z w) c.0 i)
 
 -- ---- of the scalar, and not empty
 abbrev pub EachInside : Scalar → Option Range → Type 0
@@ -89,8 +90,8 @@ pub whole_inside : (scalar : Scalar) (o : Option Range) → IsFullEach o → Eac
 whole_inside scalar None f = tt
 whole_inside scalar (Some r) f = unless_cases (type_range scalar) r (IsInside scalar) (λ p q. record { low = p; high = q; full = f }) (λ _. type_inside scalar)
 
-pub fitted_inside : (scalar : Scalar) (o : Option Range) → IsFullEach o → EachInside scalar (fitted scalar o)
-fitted_inside scalar o f = fit_cases scalar o (EachInside scalar) (λ _. meet_inside scalar o) (λ _. whole_inside scalar o f)
+pub fitted_inside : (mode : Mode) (scalar : Scalar) (o : Option Range) → IsFullEach o → EachInside scalar (fitted mode scalar o)
+fitted_inside mode scalar o f = fit_cases mode scalar o (EachInside scalar) (λ _. meet_inside scalar o) (λ _. whole_inside scalar o f)
 
 pub hull_full : (ok : ℤ → Type 0) (f : ℤ → ℤ → ℤ) (F : Range → Range → Option Range) → IsHull ok f F → (r s : Range) → r.low ≤ℤ r.high → s.low ≤ℤ s.high → IsFullEach (F r s)
 hull_full ok f F hull r s p q = by (F r s) refl (hull.reached r s p q)
@@ -115,8 +116,8 @@ meet_each_monotone t None p h = tt
 meet_each_monotone t (Some r) None h = absurd h
 meet_each_monotone t (Some r) (Some s) h = meet_monotone t r s h
 
-pub fitted_monotone : (scalar : Scalar) (o p : Option Range) → IsFullEach o → WithinEach o p → WithinEach (fitted scalar o) (fitted scalar p)
-fitted_monotone scalar o p f h = by (is_signed scalar)
+pub fitted_monotone : (mode : Mode) (scalar : Scalar) (o p : Option Range) → IsFullEach o → WithinEach o p → WithinEach (fitted mode scalar o) (fitted mode scalar p)
+fitted_monotone mode scalar o p f h = by (traps_outside mode scalar)
   where
     by : (b : Bool) → WithinEach (cond b (meet_each (type_range scalar) o) (whole_each (type_range scalar) o)) (cond b (meet_each (type_range scalar) p) (whole_each (type_range scalar) p))
     by true = meet_each_monotone (type_range scalar) o p h

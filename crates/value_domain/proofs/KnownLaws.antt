@@ -5,13 +5,13 @@ use Rattle.gimple_ir.specs.declared.value.Value.TheVariants.{Int as Number}
 use Rattle.gimple_ir.specs.declared.value.Constant.{Constant}
 use Rattle.gimple_ir.specs.declared.value.Constant.TheVariants.{Int}
 use Rattle.gimple_core.specs.Operators.{wrapped}
+use Rattle.gimple_core.specs.Statements.{is_pointer}
 use Rattle.value_domain.specs.declared.range.Range.{Range}
 use Rattle.value_domain.specs.declared.vals.Vals.{Vals}
 use Rattle.value_domain.specs.declared.vals.Vals.TheVariants.{Any, Nothing, Among}
 use Rattle.value_domain.specs.Ranges.{InRange}
 use Rattle.value_domain.specs.FitLemmas.{le_tells}
 use Rattle.value_domain.specs.BitOperators.{number_of}
-use Rattle.value_domain.specs.ConstantOperators.{is_pointer}
 use Rattle.value_domain.specs.AbsOperators.{single_of, number_constant, range_constant, first_constant, known_of}
 use Rattle.value_domain.specs.Values.{is_none_val}
 use Rattle.value_domain.specs.Holding.{Holds, IsAmong, constant_of}

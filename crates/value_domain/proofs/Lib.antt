@@ -1,4 +1,5 @@
 pub mod ScalarLemmas
+pub mod ValuesOf
 pub mod TwosLemmas
 pub mod AgreeLemmas
 pub mod BitSoundness

@@ -3,6 +3,8 @@ use Rattle.std.proofs.Common.{◌≡◌, ℕ, ◌*◌, ◌^◌, ◌≤◌, ℤ, 
 use Rattle.std.specs.Int.{int_min}
 use Rattle.std.proofs.lemmas.Int.{ints, clamps}
 use Rattle.std.proofs.lemmas.Nat.{mul-le}
+use Rattle.gimple_ir.specs.declared.scalar.Mode.{Mode}
+use Rattle.gimple_ir.specs.declared.scalar.Mode.TheVariants.{Trap, Wrap}
 use Rattle.gimple_ir.specs.declared.scalar.Scalar.{Scalar}
 use Rattle.gimple_core.specs.Operators.{is_signed, greatest_of}
 use Rattle.value_domain.specs.declared.range.Range.{Range}
@@ -61,13 +63,14 @@ unsigned_low scalar r e i =
 pub unsigned_words : (scalar : Scalar) (r : Range) → is_signed scalar ≡ false → IsInside scalar r → IsUnsignedWord r.low × IsUnsignedWord r.high
 unsigned_words scalar r e i = let u = unsigned_low scalar r e i in (record { low = u.0; high = omega (arith, ints, i.full, u.1) }, record { low = omega (arith, ints, i.full, u.0); high = u.1 })
 
-fit_unsigned : (scalar : Scalar) (x : Range) → is_signed scalar ≡ false → fitted scalar (Some x) ≡ Some (whole_unless (type_range scalar) x)
-fit_unsigned scalar x e = rw e refl
+fit_unsigned : (mode : Mode) (scalar : Scalar) (x : Range) → is_signed scalar ≡ false → fitted mode scalar (Some x) ≡ Some (whole_unless (type_range scalar) x)
+fit_unsigned Trap scalar x e = rw e refl
+fit_unsigned Wrap scalar x e = refl
 
-pub unsigned_product_is : (scalar : Scalar) (r s : Range) → is_signed scalar ≡ false → IsInside scalar r → IsInside scalar s → Some (whole_unless (type_range scalar) (record { low = int_min (r.low *ℤ s.low) (pos (2 ^ 64)); high = int_min (r.high *ℤ s.high) (pos (2 ^ 64)) })) ≡ fitted scalar (product_range r s)
-unsigned_product_is scalar r s e i j =
+pub unsigned_product_is : (mode : Mode) (scalar : Scalar) (r s : Range) → is_signed scalar ≡ false → IsInside scalar r → IsInside scalar s → Some (whole_unless (type_range scalar) (record { low = int_min (r.low *ℤ s.low) (pos (2 ^ 64)); high = int_min (r.high *ℤ s.high) (pos (2 ^ 64)) })) ≡ fitted mode scalar (product_range r s)
+unsigned_product_is mode scalar r s e i j =
     let a = unsigned_low scalar r e i in
     let b = unsigned_low scalar s e j in
     let w = (type_word scalar).1 in
     let below : greatest_of scalar <ℤ pos (2 ^ 64) = omega (arith, ints, w) in
-    ap Some (cut_same (type_range scalar) (r.low *ℤ s.low) (r.high *ℤ s.high) (pos (2 ^ 64)) below (least_first r.low r.high s.low s.high a.0 i.full b.0 j.full) ∙ ap (whole_unless (type_range scalar)) (sym (corners_up r.low r.high s.low s.high a.0 i.full b.0 j.full))) ∙ sym (fit_unsigned scalar (corners (λ z w. z *ℤ w) r s) e)
+    ap Some (cut_same (type_range scalar) (r.low *ℤ s.low) (r.high *ℤ s.high) (pos (2 ^ 64)) below (least_first r.low r.high s.low s.high a.0 i.full b.0 j.full) ∙ ap (whole_unless (type_range scalar)) (sym (corners_up r.low r.high s.low s.high a.0 i.full b.0 j.full))) ∙ sym (fit_unsigned mode scalar (corners (λ z w. z *ℤ w) r s) e)

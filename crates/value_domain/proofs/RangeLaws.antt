@@ -4,6 +4,7 @@ use Rattle.std.proofs.lemmas.Int.{ints}
 use Rattle.std.proofs.lemmas.Nat.{mod_below}
 use Rattle.gimple_ir.specs.declared.scalar.Scalar.{Scalar}
 use Rattle.gimple_ir.specs.declared.scalar.Scalar.TheVariants.{I64, U64}
+use Rattle.gimple_ir.specs.declared.scalar.Mode.{Mode}
 use Rattle.gimple_ir.specs.declared.scalar.Op.{Op}
 use Rattle.gimple_ir.specs.declared.scalar.Op.TheVariants.{Add, Sub, Mul, Div, Rem, And, Or, Xor, Shl, Shr}
 use Rattle.gimple_core.specs.Operators.{modulus_of, least_of, greatest_of, op_of}
@@ -32,44 +33,44 @@ pub type_holds : (scalar : Scalar) (r : Range) (z : ℤ) → IsInside scalar r �
 type_holds = inside_in
 
 -- ---- the result is in the interval
-pub op_range_holds : (op : Op) (scalar other : Scalar) (z w x : ℤ) (r s : Range) → IsRight op scalar other → IsInside scalar r → IsInside other s → InRange z r → InRange w s → op_of op scalar z w ≡ okay x → InEach x (op_range op scalar r s)
-op_range_holds Add scalar other z w x r s t i j h k e = fitted_holds scalar (sum_range r s) (z +ℤ w) x (add_is scalar z w x e) (sum_hull.holds r s z w h k tt)
-op_range_holds Sub scalar other z w x r s t i j h k e = fitted_holds scalar (difference_range r s) (z -ℤ w) x (sub_is scalar z w x e) (difference_hull.holds r s z w h k tt)
-op_range_holds Mul scalar other z w x r s t i j h k e = fitted_holds scalar (product_range r s) (z *ℤ w) x (mul_is scalar z w x e) (product_hull.holds r s z w h k tt)
-op_range_holds Div scalar other z w x r s t i j h k e = let d = div_is scalar z w x e in divided_holds scalar (quotient_range r s) z w x (inside_in scalar r z i h) (inside_in scalar s w (subst (λ o. IsInside o s) t j) k) d.1 (quotient_hull.holds r s z w h k (non_zero w d.0))
-op_range_holds Rem scalar other z w x r s t i j h k e = let d = rem_is scalar z w x e in subst (λ y. InEach y (remainder_range r s)) d.1 (remainder_holds r s z w h k d.0)
-op_range_holds And scalar other z w x r s t i j h k e = subst (λ y. InRange y (and_range (type_range scalar) r s)) (and_is scalar z w x e) (and_holds scalar r s z w (inside_in scalar r z i h) (inside_in scalar s w (subst (λ o. IsInside o s) t j) k) h k)
-op_range_holds Or scalar other z w x r s t i j h k e = let j2 : IsInside scalar s = subst (λ o. IsInside o s) t j in subst (λ y. InRange y (or_range (type_range scalar) r s)) (or_is scalar z w x e) (or_holds scalar r s z w i.high j2.high (inside_in scalar r z i h) (inside_in scalar s w j2 k) h k)
-op_range_holds Xor scalar other z w x r s t i j h k e = let j2 : IsInside scalar s = subst (λ o. IsInside o s) t j in subst (λ y. InRange y (or_range (type_range scalar) r s)) (xor_is scalar z w x e) (xor_holds scalar r s z w i.high j2.high (inside_in scalar r z i h) (inside_in scalar s w j2 k) h k)
-op_range_holds Shl scalar other z w x r s t i j h k e = subst (λ y. InRange y (type_range scalar)) (shl_is scalar z w x e).1 (of_bits_in scalar _ (let p = halves scalar in mod_below _ (modulus_of scalar) (omega arith)))
-op_range_holds Shr scalar other z w x r s t i j h k e = subst (λ y. InRange y (shr_range r)) (shr_is scalar z w x e).1 (shr_holds r z (unsigned_abs w) h)
+pub op_range_holds : (mode : Mode) (op : Op) (scalar other : Scalar) (z w x : ℤ) (r s : Range) → IsRight op scalar other → IsInside scalar r → IsInside other s → InRange z r → InRange w s → op_of mode op scalar z w ≡ okay x → InEach x (op_range mode op scalar r s)
+op_range_holds mode Add scalar other z w x r s t i j h k e = fitted_holds mode scalar (sum_range r s) (z +ℤ w) x (add_is mode scalar z w x e) (sum_hull.holds r s z w h k tt)
+op_range_holds mode Sub scalar other z w x r s t i j h k e = fitted_holds mode scalar (difference_range r s) (z -ℤ w) x (sub_is mode scalar z w x e) (difference_hull.holds r s z w h k tt)
+op_range_holds mode Mul scalar other z w x r s t i j h k e = fitted_holds mode scalar (product_range r s) (z *ℤ w) x (mul_is mode scalar z w x e) (product_hull.holds r s z w h k tt)
+op_range_holds mode Div scalar other z w x r s t i j h k e = let d = div_is mode scalar z w x e in divided_holds scalar (quotient_range r s) z w x d.1 (quotient_hull.holds r s z w h k (non_zero w d.0))
+op_range_holds mode Rem scalar other z w x r s t i j h k e = let d = rem_is mode scalar z w x e in subst (λ y. InEach y (remainder_range r s)) d.1 (remainder_holds r s z w h k d.0)
+op_range_holds mode And scalar other z w x r s t i j h k e = subst (λ y. InRange y (and_range (type_range scalar) r s)) (and_is mode scalar z w x e) (and_holds scalar r s z w (inside_in scalar r z i h) (inside_in scalar s w (subst (λ o. IsInside o s) t j) k) h k)
+op_range_holds mode Or scalar other z w x r s t i j h k e = let j2 : IsInside scalar s = subst (λ o. IsInside o s) t j in subst (λ y. InRange y (or_range (type_range scalar) r s)) (or_is mode scalar z w x e) (or_holds scalar r s z w i.high j2.high (inside_in scalar r z i h) (inside_in scalar s w j2 k) h k)
+op_range_holds mode Xor scalar other z w x r s t i j h k e = let j2 : IsInside scalar s = subst (λ o. IsInside o s) t j in subst (λ y. InRange y (or_range (type_range scalar) r s)) (xor_is mode scalar z w x e) (xor_holds scalar r s z w i.high j2.high (inside_in scalar r z i h) (inside_in scalar s w j2 k) h k)
+op_range_holds mode Shl scalar other z w x r s t i j h k e = subst (λ y. InRange y (type_range scalar)) (shl_is mode scalar z w x e).1 (of_bits_in scalar _ (let p = halves scalar in mod_below _ (modulus_of scalar) (omega arith)))
+op_range_holds mode Shr scalar other z w x r s t i j h k e = subst (λ y. InRange y (shr_range r)) (shr_is mode scalar z w x e).1 (shr_holds r z (unsigned_abs w) h)
 
-pub op_range_inside : (op : Op) (scalar other : Scalar) (r s : Range) → IsRight op scalar other → IsInside scalar r → IsInside other s → EachInside scalar (op_range op scalar r s)
-op_range_inside Add scalar other r s t i j = fitted_inside scalar (sum_range r s) (hull_full Always (λ z w. z +ℤ w) sum_range sum_hull r s i.full j.full)
-op_range_inside Sub scalar other r s t i j = fitted_inside scalar (difference_range r s) (hull_full Always (λ z w. z -ℤ w) difference_range difference_hull r s i.full j.full)
-op_range_inside Mul scalar other r s t i j = fitted_inside scalar (product_range r s) (hull_full Always (λ z w. z *ℤ w) product_range product_hull r s i.full j.full)
-op_range_inside Div scalar other r s t i j = meet_inside scalar (quotient_range r s)
-op_range_inside Rem scalar other r s t i j = remainder_inside scalar r s i
-op_range_inside And scalar other r s t i j = and_inside scalar r s i (subst (λ o. IsInside o s) t j)
-op_range_inside Or scalar other r s t i j = or_inside scalar r s i (subst (λ o. IsInside o s) t j)
-op_range_inside Xor scalar other r s t i j = or_inside scalar r s i (subst (λ o. IsInside o s) t j)
-op_range_inside Shl scalar other r s t i j = type_inside scalar
-op_range_inside Shr scalar other r s t i j = shr_inside scalar r i
+pub op_range_inside : (mode : Mode) (op : Op) (scalar other : Scalar) (r s : Range) → IsRight op scalar other → IsInside scalar r → IsInside other s → EachInside scalar (op_range mode op scalar r s)
+op_range_inside mode Add scalar other r s t i j = fitted_inside mode scalar (sum_range r s) (hull_full Always (λ z w. z +ℤ w) sum_range sum_hull r s i.full j.full)
+op_range_inside mode Sub scalar other r s t i j = fitted_inside mode scalar (difference_range r s) (hull_full Always (λ z w. z -ℤ w) difference_range difference_hull r s i.full j.full)
+op_range_inside mode Mul scalar other r s t i j = fitted_inside mode scalar (product_range r s) (hull_full Always (λ z w. z *ℤ w) product_range product_hull r s i.full j.full)
+op_range_inside mode Div scalar other r s t i j = meet_inside scalar (quotient_range r s)
+op_range_inside mode Rem scalar other r s t i j = remainder_inside scalar r s i
+op_range_inside mode And scalar other r s t i j = and_inside scalar r s i (subst (λ o. IsInside o s) t j)
+op_range_inside mode Or scalar other r s t i j = or_inside scalar r s i (subst (λ o. IsInside o s) t j)
+op_range_inside mode Xor scalar other r s t i j = or_inside scalar r s i (subst (λ o. IsInside o s) t j)
+op_range_inside mode Shl scalar other r s t i j = type_inside scalar
+op_range_inside mode Shr scalar other r s t i j = shr_inside scalar r i
 
 same_within : (r : Range) → Within r r
 same_within r = record { low = omega (arith, ints); high = omega (arith, ints) }
 
-pub op_range_monotone : (op : Op) (scalar other : Scalar) (r s r2 s2 : Range) → IsRight op scalar other → IsInside scalar r → IsInside other s → IsInside scalar r2 → IsInside other s2 → Within r r2 → Within s s2 → WithinEach (op_range op scalar r s) (op_range op scalar r2 s2)
-op_range_monotone Add scalar other r s r2 s2 t i j i2 j2 v w = fitted_monotone scalar (sum_range r s) (sum_range r2 s2) (hull_full Always (λ z w. z +ℤ w) sum_range sum_hull r s i.full j.full) (hull_monotone Always (λ z w. z +ℤ w) sum_range sum_hull r s r2 s2 i.full j.full v w)
-op_range_monotone Sub scalar other r s r2 s2 t i j i2 j2 v w = fitted_monotone scalar (difference_range r s) (difference_range r2 s2) (hull_full Always (λ z w. z -ℤ w) difference_range difference_hull r s i.full j.full) (hull_monotone Always (λ z w. z -ℤ w) difference_range difference_hull r s r2 s2 i.full j.full v w)
-op_range_monotone Mul scalar other r s r2 s2 t i j i2 j2 v w = fitted_monotone scalar (product_range r s) (product_range r2 s2) (hull_full Always (λ z w. z *ℤ w) product_range product_hull r s i.full j.full) (hull_monotone Always (λ z w. z *ℤ w) product_range product_hull r s r2 s2 i.full j.full v w)
-op_range_monotone Div scalar other r s r2 s2 t i j i2 j2 v w = meet_each_monotone (type_range scalar) (quotient_range r s) (quotient_range r2 s2) (hull_monotone IsNonZero int_div quotient_range quotient_hull r s r2 s2 i.full j.full v w)
-op_range_monotone Rem scalar other r s r2 s2 t i j i2 j2 v w = remainder_monotone r s r2 s2 j.full v w
-op_range_monotone And scalar other r s r2 s2 t i j i2 j2 v w = and_monotone scalar r s r2 s2 i (subst (λ o. IsInside o s) t j) v w
-op_range_monotone Or scalar other r s r2 s2 t i j i2 j2 v w = or_monotone scalar r s r2 s2 i (subst (λ o. IsInside o s) t j) i2 (subst (λ o. IsInside o s2) t j2) v w
-op_range_monotone Xor scalar other r s r2 s2 t i j i2 j2 v w = or_monotone scalar r s r2 s2 i (subst (λ o. IsInside o s) t j) i2 (subst (λ o. IsInside o s2) t j2) v w
-op_range_monotone Shl scalar other r s r2 s2 t i j i2 j2 v w = same_within (type_range scalar)
-op_range_monotone Shr scalar other r s r2 s2 t i j i2 j2 v w = shr_monotone r r2 v
+pub op_range_monotone : (mode : Mode) (op : Op) (scalar other : Scalar) (r s r2 s2 : Range) → IsRight op scalar other → IsInside scalar r → IsInside other s → IsInside scalar r2 → IsInside other s2 → Within r r2 → Within s s2 → WithinEach (op_range mode op scalar r s) (op_range mode op scalar r2 s2)
+op_range_monotone mode Add scalar other r s r2 s2 t i j i2 j2 v w = fitted_monotone mode scalar (sum_range r s) (sum_range r2 s2) (hull_full Always (λ z w. z +ℤ w) sum_range sum_hull r s i.full j.full) (hull_monotone Always (λ z w. z +ℤ w) sum_range sum_hull r s r2 s2 i.full j.full v w)
+op_range_monotone mode Sub scalar other r s r2 s2 t i j i2 j2 v w = fitted_monotone mode scalar (difference_range r s) (difference_range r2 s2) (hull_full Always (λ z w. z -ℤ w) difference_range difference_hull r s i.full j.full) (hull_monotone Always (λ z w. z -ℤ w) difference_range difference_hull r s r2 s2 i.full j.full v w)
+op_range_monotone mode Mul scalar other r s r2 s2 t i j i2 j2 v w = fitted_monotone mode scalar (product_range r s) (product_range r2 s2) (hull_full Always (λ z w. z *ℤ w) product_range product_hull r s i.full j.full) (hull_monotone Always (λ z w. z *ℤ w) product_range product_hull r s r2 s2 i.full j.full v w)
+op_range_monotone mode Div scalar other r s r2 s2 t i j i2 j2 v w = meet_each_monotone (type_range scalar) (quotient_range r s) (quotient_range r2 s2) (hull_monotone IsNonZero int_div quotient_range quotient_hull r s r2 s2 i.full j.full v w)
+op_range_monotone mode Rem scalar other r s r2 s2 t i j i2 j2 v w = remainder_monotone r s r2 s2 j.full v w
+op_range_monotone mode And scalar other r s r2 s2 t i j i2 j2 v w = and_monotone scalar r s r2 s2 i (subst (λ o. IsInside o s) t j) v w
+op_range_monotone mode Or scalar other r s r2 s2 t i j i2 j2 v w = or_monotone scalar r s r2 s2 i (subst (λ o. IsInside o s) t j) i2 (subst (λ o. IsInside o s2) t j2) v w
+op_range_monotone mode Xor scalar other r s r2 s2 t i j i2 j2 v w = or_monotone scalar r s r2 s2 i (subst (λ o. IsInside o s) t j) i2 (subst (λ o. IsInside o s2) t j2) v w
+op_range_monotone mode Shl scalar other r s r2 s2 t i j i2 j2 v w = same_within (type_range scalar)
+op_range_monotone mode Shr scalar other r s r2 s2 t i j i2 j2 v w = shr_monotone r r2 v
 
 -- ---- rounding among lawful thresholds
 module _ (ts : List ℤ) (law : IsLawful ts) where

@@ -7,7 +7,7 @@ use Rattle.gimple_ir.specs.declared.scalar.Scalar.{Scalar}
 use Rattle.gimple_ir.specs.declared.scalar.Cmp.{Cmp}
 use Rattle.gimple_ir.specs.declared.scalar.Cmp.TheVariants.{Eq, Ne, Lt, Le, Gt, Ge}
 use Rattle.gimple_ir.specs.declared.value.Value.{Value}
-use Rattle.gimple_ir.specs.declared.value.Value.TheVariants.{Int as Number, Null as NullPointer, At}
+use Rattle.gimple_ir.specs.declared.value.Value.TheVariants.{Int as Number, Null as NullPointer, At, Code}
 use Rattle.gimple_ir.specs.declared.value.Object.{Object}
 use Rattle.gimple_ir.specs.declared.value.Object.TheVariants.{Global as GlobalObject, Local as LocalObject}
 use Rattle.gimple_ir.specs.declared.value.Constant.{Constant}
@@ -15,6 +15,9 @@ use Rattle.gimple_ir.specs.declared.value.Constant.TheVariants.{Int, Null, Globa
 use Rattle.gimple_core.specs.Operators.{cmp_of}
 use Rattle.gimple_core.specs.Memory.{same_object}
 use Rattle.gimple_core.specs.Run.{compares}
+use Rattle.gimple_core.specs.Statements.{is_pointer}
+use Rattle.gimple_core.specs.State.{is_of}
+use Rattle.gimple_core.proofs.NameLemmas.{same_name_true, same_name_self}
 use Rattle.value_domain.specs.declared.range.Range.{Range}
 use Rattle.value_domain.specs.declared.vals.Vals.{Vals}
 use Rattle.value_domain.specs.declared.vals.Vals.TheVariants.{Any, Nothing, Among}
@@ -26,11 +29,11 @@ use Rattle.value_domain.specs.OrderLemmas.{constant_order}
 use Rattle.value_domain.specs.Ranges.{InRange, Within, FitsRange, meet_range}
 use Rattle.value_domain.specs.RangeOperators.{lowest, highest, allowed, IsInside, rounded, rounded_each}
 use Rattle.value_domain.specs.FitLemmas.{le_tells, meet_holds}
-use Rattle.value_domain.specs.ConstantOperators.{is_pointer, kept_vals}
+use Rattle.value_domain.specs.ConstantOperators.{kept_vals}
 use Rattle.value_domain.specs.AbsOperators.{assembled, lies_in, vals_without, ordered_left, refined_proper, refined_of, span_of}
 use Rattle.value_domain.specs.Values.{FitsVals, FitsWith, is_none_val}
 use Rattle.value_domain.specs.Thresholds.{IsLawful}
-use Rattle.value_domain.specs.Holding.{Holds, IsAmong, IsListed, constant_of, value_of_scalar, ValsOf, IsOf, MayCompare, is_equality}
+use Rattle.value_domain.specs.Holding.{Holds, IsAmong, IsListed, constant_of, ValsOf, IsOf, MayCompare, is_equality}
 use Rattle.value_domain.specs.Laws.{RefineHolds, RefineFits}
 use Rattle.value_domain.proofs.ScalarLemmas.{two, both, in_type, type_word}
 use Rattle.value_domain.proofs.RangeSoundness.{lt_is}
@@ -63,7 +66,7 @@ unfolding compares
 compares_numbers cmp z w = refl
 
 module _ (most : ℕ) (ts : List ℤ) (law : IsLawful ts) (cmp : Cmp) (scalar : Scalar) (p : is_pointer scalar ≡ false) where
-  order_holds : (a b : AbsVal) (v w : Value) → ProperOf most ts scalar a → ProperOf most ts scalar b → value_of_scalar scalar v ≡ true → value_of_scalar scalar w ≡ true → Holds v a → Holds w b → compares v cmp w ≡ true → Holds v (ordered_left cmp ts a b)
+  order_holds : (a b : AbsVal) (v w : Value) → ProperOf most ts scalar a → ProperOf most ts scalar b → is_of scalar v ≡ true → is_of scalar w ≡ true → Holds v a → Holds w b → compares v cmp w ≡ true → Holds v (ordered_left cmp ts a b)
   order_holds a b v w f g e k h m n =
       let z = number_value scalar v p e in
       let u = number_value scalar w p k in
@@ -114,11 +117,18 @@ unfolding compares
 equal_values (Number z) (Number w) h = ap Number (number_same z w h)
 equal_values (Number z) NullPointer h = cc
 equal_values (Number z) (At b j) h = cc
+equal_values (Number z) (Code g) h = cc
 equal_values NullPointer (Number w) h = cc
 equal_values NullPointer NullPointer h = refl
 equal_values NullPointer (At b j) h = cc
+equal_values NullPointer (Code g) h = cc
 equal_values (At a i) (Number w) h = cc
 equal_values (At a i) NullPointer h = cc
+equal_values (At a i) (Code g) h = cc
+equal_values (Code f) (Number w) h = cc
+equal_values (Code f) NullPointer h = cc
+equal_values (Code f) (At b j) h = cc
+equal_values (Code f) (Code g) h = ap Code (same_name_true f g h)
 equal_values (At a i) (At b j) h = let e : (same_object a b ≡ true) × ((int_le i j && int_le j i) ≡ true) = two _ _ h in let p = object_same a b e.0 in let q = number_same i j e.1 in λ k. At (p k) (q k)
 
 le_self : (z : ℤ) → (int_le z z && int_le z z) ≡ true
@@ -132,6 +142,7 @@ unequal_self : (v : Value) → compares v Ne v ≡ true → ⊥
 unfolding compares
 unequal_self (Number z) h = let e = le_self z in let n : not true ≡ true = subst (λ (b : Bool). not b ≡ true) e h in cc
 unequal_self NullPointer h = cc
+unequal_self (Code f) h = let n : not true ≡ true = subst (λ (b : Bool). not b ≡ true) (same_name_self f) h in cc
 unequal_self (At a i) h = let e : (same_object a a && (int_le i i && int_le i i)) ≡ true = both _ _ (object_self a) (le_self i) in let n : not true ≡ true = subst (λ (b : Bool). not b ≡ true) e h in cc
 
 some_same : (c d : Constant) → Some c ≡ Some d → c ≡ d
@@ -143,14 +154,18 @@ same_value (Number z) (Number w) c h k = let e : Int z ≡ Int w = some_same (In
 same_value (Number z) NullPointer c h k = absurd (let e : Int z ≡ Null = some_same (Int z) c h ∙ sym (some_same Null c k) in cc)
 same_value (Number z) (At (GlobalObject j) o) c h k = absurd (let e : Int z ≡ Global j o = some_same (Int z) c h ∙ sym (some_same (Global j o) c k) in cc)
 same_value (Number z) (At (LocalObject s j) o) c h k = cc
+same_value (Number z) (Code g) c h k = cc
 same_value NullPointer (Number w) c h k = absurd (let e : Null ≡ Int w = some_same Null c h ∙ sym (some_same (Int w) c k) in cc)
 same_value NullPointer NullPointer c h k = refl
 same_value NullPointer (At (GlobalObject j) o) c h k = absurd (let e : Null ≡ Global j o = some_same Null c h ∙ sym (some_same (Global j o) c k) in cc)
 same_value NullPointer (At (LocalObject s j) o) c h k = cc
+same_value NullPointer (Code g) c h k = cc
+same_value (Code f) w c h k = cc
 same_value (At (LocalObject s i) n) w c h k = cc
 same_value (At (GlobalObject i) n) (Number w) c h k = absurd (let e : Global i n ≡ Int w = some_same (Global i n) c h ∙ sym (some_same (Int w) c k) in cc)
 same_value (At (GlobalObject i) n) NullPointer c h k = absurd (let e : Global i n ≡ Null = some_same (Global i n) c h ∙ sym (some_same Null c k) in cc)
 same_value (At (GlobalObject i) n) (At (LocalObject s j) o) c h k = cc
+same_value (At (GlobalObject i) n) (Code g) c h k = cc
 same_value (At (GlobalObject i) n) (At (GlobalObject j) o) c h k =
     let e : Global i n ≡ Global j o = some_same (Global i n) c h ∙ sym (some_same (Global j o) c k) in
     let f : i ≡ j = cc in let g : n ≡ o = cc in λ m. At (GlobalObject (f m)) (g m)

@@ -8,6 +8,7 @@ use Rattle.std.proofs.lemmas.Nat.{mul-le}
 use Rattle.std.proofs.lemmas.Bool.{cases_lt}
 use Rattle.gimple_ir.specs.declared.scalar.Scalar.{Scalar}
 use Rattle.gimple_ir.specs.declared.scalar.Scalar.TheVariants.{Ptr}
+use Rattle.gimple_ir.specs.declared.scalar.Mode.{Mode}
 use Rattle.gimple_ir.specs.declared.scalar.Op.{Op}
 use Rattle.gimple_ir.specs.declared.scalar.Op.TheVariants.{Add, Sub, Mul, Div, Rem, And, Or, Xor, Shl, Shr}
 use Rattle.gimple_ir.specs.declared.value.TrapKind.{TrapKind}
@@ -16,17 +17,19 @@ use Rattle.gimple_ir.specs.declared.value.Value.{Value}
 use Rattle.gimple_ir.specs.declared.value.Value.TheVariants.{Int as Number}
 use Rattle.gimple_ir.specs.declared.value.Constant.{Constant}
 use Rattle.gimple_ir.specs.declared.value.Constant.TheVariants.{Int}
-use Rattle.gimple_core.specs.Operators.{is_signed, in_scalar, kept, wrapped, of_bits, low_bits, bits_of, modulus_of, half_of, least_of, greatest_of, is_count, op_of, unless_not}
+use Rattle.gimple_core.specs.Operators.{is_signed, in_scalar, within, kept, wrapped, of_bits, low_bits, bits_of, modulus_of, half_of, least_of, greatest_of, is_count, op_of, unless_not}
 use Rattle.gimple_core.specs.Memory.{moved_by}
 use Rattle.gimple_core.specs.Run.{arith_of, any_number}
+use Rattle.gimple_core.specs.Statements.{is_pointer}
+use Rattle.gimple_core.proofs.ScalarLemmas.{pointer_is}
 use Rattle.lattice_parts.specs.Sets.{Has}
 use Rattle.value_domain.specs.declared.range.Range.{Range}
 use Rattle.value_domain.specs.declared.vals.Vals.{Vals}
 use Rattle.value_domain.specs.declared.vals.Vals.TheVariants.{Any, Nothing, Among}
 use Rattle.value_domain.specs.Ranges.{InRange, InEach, sum_range, difference_range, product_range}
-use Rattle.value_domain.specs.RangeOperators.{type_range}
+use Rattle.value_domain.specs.RangeOperators.{type_range, traps_outside}
 use Rattle.value_domain.specs.FitLemmas.{le_tells}
-use Rattle.value_domain.specs.ConstantOperators.{is_pointer, may_stand_right}
+use Rattle.value_domain.specs.ConstantOperators.{may_stand_right}
 use Rattle.value_domain.specs.AbsOperators.{is_trap, pair_traps, row_traps_of, some_traps, vals_trap, lies_outside, has_number, division_traps, count_traps, range_traps, may_trap_of}
 use Rattle.value_domain.specs.Values.{is_none_val}
 use Rattle.value_domain.specs.Holding.{Holds, IsAmong, IsRight}
@@ -34,10 +37,11 @@ use Rattle.value_domain.specs.Laws.{NoTrap, done}
 use Rattle.value_domain.proofs.ScalarLemmas.{okay, two, both, in_type, in_type_is, signed_ends, pos_below, neg_below, type_zero}
 use Rattle.value_domain.proofs.RangeLemmas.{sum_hull, difference_hull, product_hull}
 use Rattle.value_domain.proofs.RangeSoundness.{is_lt, lt_is}
+use Rattle.value_domain.proofs.FitSoundness.{kept_is}
 use Rattle.value_domain.proofs.WholeLemmas.{number_value}
 use Rattle.value_domain.proofs.OperatorLaws.{stands, arith_back}
 use Rattle.value_domain.proofs.CodeLemmas.{right_int}
-use Rattle.value_domain.proofs.AbsLaws.{none_or_not, proper_by, is_ptr}
+use Rattle.value_domain.proofs.AbsLaws.{none_or_not, proper_by}
 
 abbrev IsDone : Result ℤ TrapKind → Type 0
 IsDone r = (x : ℤ) × (r ≡ okay x)
@@ -55,29 +59,29 @@ not_false true h = refl
 not_false false h = cc
 
 -- ---- pairs of constants
-row_none : (op : Op) (scalar : Scalar) (c d : Constant) (ds : List Constant) → row_traps_of op scalar c ds ≡ false → Has d ds → pair_traps op scalar c d ≡ false
-row_none op scalar c d [] h m = absurd m
-row_none op scalar c d (e ∷ ds) h (inl s) = subst (λ x. pair_traps op scalar c x ≡ false) (sym s) (or_false _ _ h).0
-row_none op scalar c d (e ∷ ds) h (inr m) = row_none op scalar c d ds (or_false _ _ h).1 m
+row_none : (mode : Mode) (op : Op) (scalar : Scalar) (c d : Constant) (ds : List Constant) → row_traps_of mode op scalar c ds ≡ false → Has d ds → pair_traps mode op scalar c d ≡ false
+row_none mode op scalar c d [] h m = absurd m
+row_none mode op scalar c d (e ∷ ds) h (inl s) = subst (λ x. pair_traps mode op scalar c x ≡ false) (sym s) (or_false _ _ h).0
+row_none mode op scalar c d (e ∷ ds) h (inr m) = row_none mode op scalar c d ds (or_false _ _ h).1 m
 
-some_none : (op : Op) (scalar : Scalar) (c d : Constant) (cs ds : List Constant) → some_traps op scalar cs ds ≡ false → Has c cs → Has d ds → pair_traps op scalar c d ≡ false
-some_none op scalar c d [] ds h m n = absurd m
-some_none op scalar c d (e ∷ cs) ds h (inl s) n = subst (λ x. pair_traps op scalar x d ≡ false) (sym s) (row_none op scalar e d ds (or_false _ _ h).0 n)
-some_none op scalar c d (e ∷ cs) ds h (inr m) n = some_none op scalar c d cs ds (or_false _ _ h).1 m n
+some_none : (mode : Mode) (op : Op) (scalar : Scalar) (c d : Constant) (cs ds : List Constant) → some_traps mode op scalar cs ds ≡ false → Has c cs → Has d ds → pair_traps mode op scalar c d ≡ false
+some_none mode op scalar c d [] ds h m n = absurd m
+some_none mode op scalar c d (e ∷ cs) ds h (inl s) n = subst (λ x. pair_traps mode op scalar x d ≡ false) (sym s) (row_none mode op scalar e d ds (or_false _ _ h).0 n)
+some_none mode op scalar c d (e ∷ cs) ds h (inr m) n = some_none mode op scalar c d cs ds (or_false _ _ h).1 m n
 
-vals_none : (op : Op) (scalar : Scalar) (c d : Constant) (a b : Vals) → vals_trap op scalar a b ≡ false → IsAmong (Some c) a → IsAmong (Some d) b → pair_traps op scalar c d ≡ false
-vals_none op scalar c d Any b h m n = cc
-vals_none op scalar c d Nothing b h m n = absurd m
-vals_none op scalar c d (Among l cs) Any h m n = cc
-vals_none op scalar c d (Among l cs) Nothing h m n = absurd n
-vals_none op scalar c d (Among l cs) (Among k ds) h m n = some_none op scalar c d cs ds h m n
+vals_none : (mode : Mode) (op : Op) (scalar : Scalar) (c d : Constant) (a b : Vals) → vals_trap mode op scalar a b ≡ false → IsAmong (Some c) a → IsAmong (Some d) b → pair_traps mode op scalar c d ≡ false
+vals_none mode op scalar c d Any b h m n = cc
+vals_none mode op scalar c d Nothing b h m n = absurd m
+vals_none mode op scalar c d (Among l cs) Any h m n = cc
+vals_none mode op scalar c d (Among l cs) Nothing h m n = absurd n
+vals_none mode op scalar c d (Among l cs) (Among k ds) h m n = some_none mode op scalar c d cs ds h m n
 
 result_done : (r : Result ℤ TrapKind) → is_trap r ≡ false → IsDone r
 result_done (Ok x) h = (x, refl)
 result_done (Err k) h = cc
 
-pair_done : (op : Op) (scalar : Scalar) (z w : ℤ) → is_pointer scalar ≡ false → in_scalar scalar z ≡ true → may_stand_right op scalar w ≡ true → pair_traps op scalar (Int z) (Int w) ≡ false → IsDone (op_of op scalar z w)
-pair_done op scalar z w p e f h = result_done (op_of op scalar z w) (plain (is_pointer scalar) (in_scalar scalar z) (may_stand_right op scalar w) (is_trap (op_of op scalar z w)) p e f h)
+pair_done : (mode : Mode) (op : Op) (scalar : Scalar) (z w : ℤ) → is_pointer scalar ≡ false → in_scalar scalar z ≡ true → may_stand_right op scalar w ≡ true → pair_traps mode op scalar (Int z) (Int w) ≡ false → IsDone (op_of mode op scalar z w)
+pair_done mode op scalar z w p e f h = result_done (op_of mode op scalar z w) (plain (is_pointer scalar) (in_scalar scalar z) (may_stand_right op scalar w) (is_trap (op_of mode op scalar z w)) p e f h)
   where
     plain : (a b c t : Bool) → a ≡ false → b ≡ true → c ≡ true → (not a && ((b && c) && t)) ≡ false → t ≡ false
     plain true b c t p e f h = cc
@@ -86,21 +90,16 @@ pair_done op scalar z w p e f h = result_done (op_of op scalar z w) (plain (is_p
     plain false true true t p e f h = h
 
 -- ---- intervals
-kept_done : (scalar : Scalar) (y : ℤ) → (is_signed scalar ≡ false) ⊎ InRange y (type_range scalar) → IsDone (kept scalar y)
-kept_done scalar y (inl s) = (wrapped scalar y, by (is_signed scalar) s)
-  where
-    by : (b : Bool) → b ≡ false → cond b (cond (in_scalar scalar y) (okay y) (Err Overflow)) (okay (wrapped scalar y)) ≡ okay (wrapped scalar y)
-    by true e = cc
-    by false e = refl
-kept_done scalar y (inr h) = by (is_signed scalar)
-  where
-    inner : (b : Bool) → b ≡ true → cond b (okay y) (Err Overflow) ≡ okay y
-    inner true e = refl
-    inner false e = cc
+within_done : (scalar : Scalar) (y : ℤ) → InRange y (type_range scalar) → IsDone (within scalar y)
+within_done scalar y h = (y, rw (in_type_is scalar y h) refl)
 
-    by : (b : Bool) → (x : ℤ) × (cond b (cond (in_scalar scalar y) (okay y) (Err Overflow)) (okay (wrapped scalar y)) ≡ okay x)
-    by true = (y, inner (in_scalar scalar y) (in_type_is scalar y h))
-    by false = (wrapped scalar y, refl)
+kept_done : (mode : Mode) (scalar : Scalar) (y : ℤ) → (traps_outside mode scalar ≡ false) ⊎ InRange y (type_range scalar) → IsDone (kept mode scalar y)
+kept_done mode scalar y h = subst IsDone (sym (kept_is mode scalar y)) (by (traps_outside mode scalar) h)
+  where
+    by : (b : Bool) → (b ≡ false) ⊎ InRange y (type_range scalar) → IsDone (cond b (within scalar y) (okay (wrapped scalar y)))
+    by false h = (wrapped scalar y, refl)
+    by true (inl s) = cc
+    by true (inr h) = within_done scalar y h
 
 inside_each : (t : Range) (o : Option Range) (y : ℤ) → lies_outside t o ≡ false → InEach y o → InRange y t
 inside_each t None y h i = absurd i
@@ -110,8 +109,8 @@ inside_each t (Some r) y h i =
     let b : r.high ≤ℤ t.high = (le_tells r.high t.high).is_so e.1 in
     record { from = omega (arith, ints, i.from); to = omega (arith, ints, i.to) }
 
-exact_done : (scalar : Scalar) (o : Option Range) (y : ℤ) → (is_signed scalar && lies_outside (type_range scalar) o) ≡ false → InEach y o → IsDone (kept scalar y)
-exact_done scalar o y h i = elim (and_false _ _ h) [ inl s ↦ kept_done scalar y (inl s) | inr l ↦ kept_done scalar y (inr (inside_each (type_range scalar) o y l i)) ]
+exact_done : (mode : Mode) (scalar : Scalar) (o : Option Range) (y : ℤ) → (traps_outside mode scalar && lies_outside (type_range scalar) o) ≡ false → InEach y o → IsDone (kept mode scalar y)
+exact_done mode scalar o y h i = elim (and_false _ _ h) [ inl s ↦ kept_done mode scalar y (inl s) | inr l ↦ kept_done mode scalar y (inr (inside_each (type_range scalar) o y l i)) ]
 
 not_number : (z w : ℤ) (s : Range) → has_number z s ≡ false → InRange w s → w ≡ z → ⊥
 not_number z w s h i e =
@@ -196,26 +195,26 @@ unless_done : (t : Bool) (k : TrapKind) (r : Result ℤ TrapKind) → t ≡ true
 unless_done true k r e d = d
 unless_done false k r e d = cc
 
-range_done : (op : Op) (scalar other : Scalar) (r s : Range) (z w : ℤ) → IsRight op scalar other → InRange z (type_range scalar) → InRange w (type_range other) → InRange z r → InRange w s → range_traps op scalar r s ≡ false → IsDone (op_of op scalar z w)
+range_done : (mode : Mode) (op : Op) (scalar other : Scalar) (r s : Range) (z w : ℤ) → IsRight op scalar other → InRange z (type_range scalar) → InRange w (type_range other) → InRange z r → InRange w s → range_traps mode op scalar r s ≡ false → IsDone (op_of mode op scalar z w)
 unfolding op_of
-range_done Add scalar other r s z w q h k i j t = exact_done scalar (sum_range r s) (z +ℤ w) t (sum_hull.holds r s z w i j tt)
-range_done Sub scalar other r s z w q h k i j t = exact_done scalar (difference_range r s) (z -ℤ w) t (difference_hull.holds r s z w i j tt)
-range_done Mul scalar other r s z w q h k i j t = exact_done scalar (product_range r s) (z *ℤ w) t (product_hull.holds r s z w i j tt)
-range_done Div scalar other r s z w q h k i j t = let d = division_in scalar r s z w h (subst (λ o. InRange w (type_range o)) q k) i j t in unless_done (not (unsigned_abs w == 0)) Divide (kept scalar (int_div z w)) d.0 (kept_done scalar (int_div z w) (inr d.1))
-range_done Rem scalar other r s z w q h k i j t = let d = division_in scalar r s z w h (subst (λ o. InRange w (type_range o)) q k) i j t in unless_done (not (unsigned_abs w == 0)) Divide (unless_not (in_scalar scalar (int_div z w)) Overflow (okay (int_rem z w))) d.0 (unless_done (in_scalar scalar (int_div z w)) Overflow (okay (int_rem z w)) (in_type_is scalar (int_div z w) d.1) (int_rem z w, refl))
-range_done And scalar other r s z w q h k i j t = (of_bits scalar (bit_and (low_bits scalar z) (low_bits scalar w)), refl)
-range_done Or scalar other r s z w q h k i j t = (of_bits scalar (bit_or (low_bits scalar z) (low_bits scalar w)), refl)
-range_done Xor scalar other r s z w q h k i j t = (of_bits scalar (bit_xor (low_bits scalar z) (low_bits scalar w)), refl)
-range_done Shl scalar other r s z w q h k i j t = unless_done (is_count scalar w) Shift (okay (of_bits scalar (low_bits scalar z * 2 ^ unsigned_abs w % modulus_of scalar))) (count_in scalar s w j t) (of_bits scalar (low_bits scalar z * 2 ^ unsigned_abs w % modulus_of scalar), refl)
-range_done Shr scalar other r s z w q h k i j t = unless_done (is_count scalar w) Shift (okay (int_shr z (unsigned_abs w))) (count_in scalar s w j t) (int_shr z (unsigned_abs w), refl)
+range_done mode Add scalar other r s z w q h k i j t = exact_done mode scalar (sum_range r s) (z +ℤ w) t (sum_hull.holds r s z w i j tt)
+range_done mode Sub scalar other r s z w q h k i j t = exact_done mode scalar (difference_range r s) (z -ℤ w) t (difference_hull.holds r s z w i j tt)
+range_done mode Mul scalar other r s z w q h k i j t = exact_done mode scalar (product_range r s) (z *ℤ w) t (product_hull.holds r s z w i j tt)
+range_done mode Div scalar other r s z w q h k i j t = let d = division_in scalar r s z w h (subst (λ o. InRange w (type_range o)) q k) i j t in unless_done (not (unsigned_abs w == 0)) Divide (within scalar (int_div z w)) d.0 (within_done scalar (int_div z w) d.1)
+range_done mode Rem scalar other r s z w q h k i j t = let d = division_in scalar r s z w h (subst (λ o. InRange w (type_range o)) q k) i j t in unless_done (not (unsigned_abs w == 0)) Divide (unless_not (in_scalar scalar (int_div z w)) Overflow (okay (int_rem z w))) d.0 (unless_done (in_scalar scalar (int_div z w)) Overflow (okay (int_rem z w)) (in_type_is scalar (int_div z w) d.1) (int_rem z w, refl))
+range_done mode And scalar other r s z w q h k i j t = (of_bits scalar (bit_and (low_bits scalar z) (low_bits scalar w)), refl)
+range_done mode Or scalar other r s z w q h k i j t = (of_bits scalar (bit_or (low_bits scalar z) (low_bits scalar w)), refl)
+range_done mode Xor scalar other r s z w q h k i j t = (of_bits scalar (bit_xor (low_bits scalar z) (low_bits scalar w)), refl)
+range_done mode Shl scalar other r s z w q h k i j t = unless_done (is_count scalar w) Shift (okay (of_bits scalar (low_bits scalar z * 2 ^ unsigned_abs w % modulus_of scalar))) (count_in scalar s w j t) (of_bits scalar (low_bits scalar z * 2 ^ unsigned_abs w % modulus_of scalar), refl)
+range_done mode Shr scalar other r s z w q h k i j t = unless_done (is_count scalar w) Shift (okay (int_shr z (unsigned_abs w))) (count_in scalar s w j t) (int_shr z (unsigned_abs w), refl)
 
-pointer_done : (v w : Value) (op : Op) → (x : Value) × (arith_of Ptr v op w ≡ done x)
+pointer_done : (mode : Mode) (v w : Value) (op : Op) → (x : Value) × (arith_of mode Ptr v op w ≡ done x)
 unfolding arith_of
-pointer_done v w op = (moved_by v (any_number w), refl)
+pointer_done mode v w op = (moved_by v (any_number w), refl)
 
 pub no_trap : NoTrap
 unfolding may_trap_of
-no_trap most ts op scalar other al a b fa oa fb ob v w kv kw hv hw t =
+no_trap most ts mode op scalar other al a b fa oa fb ob v w kv kw hv hw t =
     elim (none_or_not most ts a fa) [
       | inl n ↦ absurd (n.1 v hv)
       | inr i ↦ elim (none_or_not most ts b fb) [
@@ -224,7 +223,7 @@ no_trap most ts op scalar other al a b fa oa fb ob v w kv kw hv hw t =
       ]
     ]
   where
-    numbers : is_pointer scalar ≡ false → (vals_trap op scalar a.vals b.vals && range_traps op scalar a.range b.range) ≡ false → is_none_val a ≡ false → is_none_val b ≡ false → (x : Value) × (arith_of scalar v op w ≡ done x)
+    numbers : is_pointer scalar ≡ false → (vals_trap mode op scalar a.vals b.vals && range_traps mode op scalar a.range b.range) ≡ false → is_none_val a ≡ false → is_none_val b ≡ false → (x : Value) × (arith_of mode scalar v op w ≡ done x)
     numbers p t i j =
         let r = right_int op scalar other al p in
         let f = proper_by most ts scalar a fa oa p i in
@@ -233,13 +232,13 @@ no_trap most ts op scalar other al a b fa oa fb ob v w kv kw hv hw t =
         let u = number_value other w r.1 kw in
         let h : Holds (Number z.0) a = subst (λ y. Holds y a) z.1 hv in
         let k : Holds (Number u.0) b = subst (λ y. Holds y b) u.1 hw in
-        let d : IsDone (op_of op scalar z.0 u.0) = elim (and_false _ _ t) [
-          | inl e ↦ pair_done op scalar z.0 u.0 p z.2 (stands op scalar other u.0 r.0 u.2) (vals_none op scalar (Int z.0) (Int u.0) a.vals b.vals e h.vals k.vals)
-          | inr e ↦ range_done op scalar other a.range b.range z.0 u.0 r.0 (in_type scalar z.0 z.2) (in_type other u.0 u.2) h.range k.range e
+        let d : IsDone (op_of mode op scalar z.0 u.0) = elim (and_false _ _ t) [
+          | inl e ↦ pair_done mode op scalar z.0 u.0 p z.2 (stands op scalar other u.0 r.0 u.2) (vals_none mode op scalar (Int z.0) (Int u.0) a.vals b.vals e h.vals k.vals)
+          | inr e ↦ range_done mode op scalar other a.range b.range z.0 u.0 r.0 (in_type scalar z.0 z.2) (in_type other u.0 u.2) h.range k.range e
         ] in
-        let back : arith_of scalar (Number z.0) op (Number u.0) ≡ done (Number d.0) = arith_back op scalar other z.0 u.0 d.0 p r.0 z.2 u.2 d.1 in
-        (Number d.0, ap (λ y. arith_of scalar y op w) z.1 ∙ (ap (λ y. arith_of scalar (Number z.0) op y) u.1 ∙ back))
+        let back : arith_of mode scalar (Number z.0) op (Number u.0) ≡ done (Number d.0) = arith_back mode op scalar other z.0 u.0 d.0 p r.0 z.2 u.2 d.1 in
+        (Number d.0, ap (λ y. arith_of mode scalar y op w) z.1 ∙ (ap (λ y. arith_of mode scalar (Number z.0) op y) u.1 ∙ back))
 
-    by : (c : Bool) → is_pointer scalar ≡ c → (not c && (vals_trap op scalar a.vals b.vals && range_traps op scalar a.range b.range)) ≡ false → is_none_val a ≡ false → is_none_val b ≡ false → (x : Value) × (arith_of scalar v op w ≡ done x)
-    by true p t i j = subst (λ s. (x : Value) × (arith_of s v op w ≡ done x)) (sym (is_ptr scalar p)) (pointer_done v w op)
+    by : (c : Bool) → is_pointer scalar ≡ c → (not c && (vals_trap mode op scalar a.vals b.vals && range_traps mode op scalar a.range b.range)) ≡ false → is_none_val a ≡ false → is_none_val b ≡ false → (x : Value) × (arith_of mode scalar v op w ≡ done x)
+    by true p t i j = subst (λ s. (x : Value) × (arith_of mode s v op w ≡ done x)) (sym (pointer_is scalar p)) (pointer_done mode v w op)
     by false p t i j = numbers p t i j

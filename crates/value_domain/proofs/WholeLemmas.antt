@@ -4,8 +4,10 @@ use Rattle.std.proofs.lemmas.Int.{ints}
 use Rattle.std.proofs.Math.Nat.{pow-le-pow_right}
 use Rattle.gimple_ir.specs.declared.scalar.Scalar.{Scalar}
 use Rattle.gimple_ir.specs.declared.value.Value.{Value}
-use Rattle.gimple_ir.specs.declared.value.Value.TheVariants.{Int as Number, Null as NullPointer, At}
+use Rattle.gimple_ir.specs.declared.value.Value.TheVariants.{Int as Number, Null as NullPointer, At, Code}
 use Rattle.gimple_core.specs.Operators.{in_scalar, bits_of}
+use Rattle.gimple_core.specs.Statements.{is_pointer}
+use Rattle.gimple_core.specs.State.{is_of}
 use Rattle.value_domain.specs.declared.bits.Bits.{Bits}
 use Rattle.value_domain.specs.declared.range.Range.{Range}
 use Rattle.value_domain.specs.declared.vals.Vals.{Vals}
@@ -16,12 +18,12 @@ use Rattle.value_domain.specs.BitsPart.{is_below, below_is}
 use Rattle.value_domain.specs.Ranges.{InEach, Within, WithinEach, FitsRange, range_below, is_bare}
 use Rattle.value_domain.specs.RangePart.{within_is, is_within}
 use Rattle.value_domain.specs.RangeOperators.{type_range, IsInside}
-use Rattle.value_domain.specs.ConstantOperators.{is_pointer}
 use Rattle.value_domain.specs.AbsOperators.{assembled, unless_none, span_of}
 use Rattle.value_domain.specs.Values.{none_val, is_none_val, FitsVals, FitsWith, vals_below, abs_val_below}
 use Rattle.value_domain.specs.ValueLemmas.{abs_apart}
-use Rattle.value_domain.specs.Holding.{Holds, IsAmong, constant_of, number_part, value_of_scalar, mask_width, ValsOf, IsOf}
-use Rattle.value_domain.proofs.ScalarLemmas.{two, width_bound}
+use Rattle.value_domain.specs.Holding.{Holds, IsAmong, constant_of, number_part, mask_width, ValsOf, IsOf}
+use Rattle.value_domain.proofs.ScalarLemmas.{width_bound}
+use Rattle.value_domain.proofs.ValuesOf.{of_number, of_null, of_address, of_function}
 use Rattle.value_domain.proofs.AgreeLemmas.{BitsOf}
 use Rattle.value_domain.proofs.ValsLaws.{MayFit, Rises}
 
@@ -33,10 +35,11 @@ pub span_is : (scalar : Scalar) → is_pointer scalar ≡ false → span_of scal
 span_is scalar e = rw e refl
 
 -- an integer scalar's values are numbers of it
-pub number_value : (scalar : Scalar) (v : Value) → is_pointer scalar ≡ false → value_of_scalar scalar v ≡ true → (z : ℤ) × (v ≡ Number z) × (in_scalar scalar z ≡ true)
-number_value scalar (Number z) e h = (z, refl, (two _ _ h).1)
-number_value scalar NullPointer e h = absurd (let c : true ≡ false = sym h ∙ e in cc)
-number_value scalar (At object offset) e h = absurd (let c : true ≡ false = sym h ∙ e in cc)
+pub number_value : (scalar : Scalar) (v : Value) → is_pointer scalar ≡ false → is_of scalar v ≡ true → (z : ℤ) × (v ≡ Number z) × (in_scalar scalar z ≡ true)
+number_value scalar (Number z) e h = (z, refl, (of_number scalar z h).1)
+number_value scalar NullPointer e h = absurd (let c : true ≡ false = sym (of_null scalar h) ∙ e in cc)
+number_value scalar (At object offset) e h = absurd (let c : true ≡ false = sym (of_address scalar object offset h) ∙ e in cc)
+number_value scalar (Code name) e h = absurd (let c : true ≡ false = sym (of_function scalar name h) ∙ e in cc)
 
 -- ---- values that fit and are of an integer scalar
 pub record ProperOf (most : ℕ) (ts : List ℤ) (scalar : Scalar) (a : AbsVal) : Type 0 where

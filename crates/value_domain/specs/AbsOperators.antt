@@ -1,6 +1,7 @@
 -- The operators on abstract values.
 use Rattle.std.specs.Prelude.{ℕ, ◌%◌, ℤ, pos, negsuc, Bool, true, false, not, ◌&&◌, ◌||◌, int_le, int_lt, if◌then◌else◌, List, [], ◌∷◌, Option, Some, None, Result, Ok, Err}
 use Rattle.gimple_ir.specs.declared.scalar.Scalar.{Scalar}
+use Rattle.gimple_ir.specs.declared.scalar.Mode.{Mode}
 use Rattle.gimple_ir.specs.declared.scalar.Op.{Op}
 use Rattle.gimple_ir.specs.declared.scalar.Op.TheVariants.{Add, Sub, Mul, Div, Rem, And, Or, Xor, Shl, Shr}
 use Rattle.gimple_ir.specs.declared.scalar.Cmp.{Cmp}
@@ -9,6 +10,7 @@ use Rattle.gimple_ir.specs.declared.value.TrapKind.{TrapKind}
 use Rattle.gimple_ir.specs.declared.value.Constant.{Constant}
 use Rattle.gimple_ir.specs.declared.value.Constant.TheVariants.{Int}
 use Rattle.gimple_core.specs.Operators.{is_signed, bits_of, modulus_of, in_scalar, least_of, op_of}
+use Rattle.gimple_core.specs.Statements.{is_pointer}
 use Rattle.lattice_parts.specs.Sets.{has_by, same_by}
 use Rattle.value_domain.specs.declared.bits.Bits.{Bits}
 use Rattle.value_domain.specs.declared.range.Range.{Range}
@@ -19,8 +21,8 @@ use Rattle.value_domain.specs.Constants.{before}
 use Rattle.value_domain.specs.Bitmasks.{bits_met}
 use Rattle.value_domain.specs.Ranges.{meet_range, sum_range, difference_range, product_range}
 use Rattle.value_domain.specs.BitOperators.{unknown_bits, exact_bits, op_bits, some_truth, cmp_bits, converted_bits, number_of}
-use Rattle.value_domain.specs.RangeOperators.{type_range, rounded, rounded_each, op_range, cmp_range, convert_range, allowed}
-use Rattle.value_domain.specs.ConstantOperators.{is_pointer, constant_in, may_stand_right, op_constant, cmp_constant, convert_constant, pairs_vals, mapped_vals, kept_vals}
+use Rattle.value_domain.specs.RangeOperators.{type_range, rounded, rounded_each, op_range, cmp_range, convert_range, allowed, traps_outside}
+use Rattle.value_domain.specs.ConstantOperators.{constant_in, may_stand_right, op_constant, cmp_constant, convert_constant, pairs_vals, mapped_vals, kept_vals}
 use Rattle.value_domain.specs.Values.{none_val, is_none_val, vals_capped}
 
 -- a value of its parts; where one is empty, the whole is none
@@ -58,16 +60,16 @@ unfoldable pub exactly_of : Scalar → ℕ → List ℤ → Constant → AbsVal
 exactly_of scalar most ts c = if constant_in scalar c then record { vals = vals_capped most (c ∷ []); bits = bits_alone scalar c; range = range_alone ts c } else none_val
 
 -- ---- arithmetic
-abbrev pub bits_under : Op → Scalar → Scalar → Bits → Bits → Bits
-bits_under op scalar other a b = if is_pointer scalar then unknown_bits else op_bits op scalar other a b
+abbrev pub bits_under : Mode → Op → Scalar → Scalar → Bits → Bits → Bits
+bits_under mode op scalar other a b = if is_pointer scalar then unknown_bits else op_bits mode op scalar other a b
 
-abbrev pub range_under : Op → Scalar → List ℤ → Range → Range → Option Range
-range_under op scalar ts r s = if is_pointer scalar then Some zero_range else rounded_each ts (op_range op scalar r s)
+abbrev pub range_under : Mode → Op → Scalar → List ℤ → Range → Range → Option Range
+range_under mode op scalar ts r s = if is_pointer scalar then Some zero_range else rounded_each ts (op_range mode op scalar r s)
 
 -- an operator, with the limit of constants and the thresholds
-unfoldable pub abs_op_of : Op → Scalar → Scalar → ℕ → List ℤ → AbsVal → AbsVal → AbsVal
-abs_op_of op scalar other most ts a b =
-    unless_none a b (assembled (pairs_vals most (op_constant op scalar) a.vals b.vals) (Some (bits_under op scalar other a.bits b.bits)) (range_under op scalar ts a.range b.range))
+unfoldable pub abs_op_of : Mode → Op → Scalar → Scalar → ℕ → List ℤ → AbsVal → AbsVal → AbsVal
+abs_op_of mode op scalar other most ts a b =
+    unless_none a b (assembled (pairs_vals most (op_constant mode op scalar) a.vals b.vals) (Some (bits_under mode op scalar other a.bits b.bits)) (range_under mode op scalar ts a.range b.range))
 
 -- ---- comparison; 0 and 1 are thresholds
 abbrev pub either_range : Range
@@ -151,24 +153,24 @@ abbrev pub is_trap : Result ℤ TrapKind → Bool
 is_trap (Ok z) = false
 is_trap (Err kind) = true
 
-abbrev pub pair_traps : Op → Scalar → Constant → Constant → Bool
-pair_traps op scalar (Int z) (Int w) = not (is_pointer scalar) && ((in_scalar scalar z && may_stand_right op scalar w) && is_trap (op_of op scalar z w))
-pair_traps op scalar c d = false
+abbrev pub pair_traps : Mode → Op → Scalar → Constant → Constant → Bool
+pair_traps mode op scalar (Int z) (Int w) = not (is_pointer scalar) && ((in_scalar scalar z && may_stand_right op scalar w) && is_trap (op_of mode op scalar z w))
+pair_traps mode op scalar c d = false
 
-abbrev pub row_traps_of : Op → Scalar → Constant → List Constant → Bool
-row_traps_of op scalar c [] = false
-row_traps_of op scalar c (d ∷ ds) = pair_traps op scalar c d || row_traps_of op scalar c ds
+abbrev pub row_traps_of : Mode → Op → Scalar → Constant → List Constant → Bool
+row_traps_of mode op scalar c [] = false
+row_traps_of mode op scalar c (d ∷ ds) = pair_traps mode op scalar c d || row_traps_of mode op scalar c ds
 
-abbrev pub some_traps : Op → Scalar → List Constant → List Constant → Bool
-some_traps op scalar [] ds = false
-some_traps op scalar (c ∷ cs) ds = row_traps_of op scalar c ds || some_traps op scalar cs ds
+abbrev pub some_traps : Mode → Op → Scalar → List Constant → List Constant → Bool
+some_traps mode op scalar [] ds = false
+some_traps mode op scalar (c ∷ cs) ds = row_traps_of mode op scalar c ds || some_traps mode op scalar cs ds
 
-abbrev pub vals_trap : Op → Scalar → Vals → Vals → Bool
-vals_trap op scalar Any b = true
-vals_trap op scalar a Any = true
-vals_trap op scalar Nothing b = false
-vals_trap op scalar a Nothing = false
-vals_trap op scalar (Among l cs) (Among m ds) = some_traps op scalar cs ds
+abbrev pub vals_trap : Mode → Op → Scalar → Vals → Vals → Bool
+vals_trap mode op scalar Any b = true
+vals_trap mode op scalar a Any = true
+vals_trap mode op scalar Nothing b = false
+vals_trap mode op scalar a Nothing = false
+vals_trap mode op scalar (Among l cs) (Among m ds) = some_traps mode op scalar cs ds
 
 abbrev pub lies_outside : Range → Option Range → Bool
 lies_outside t None = false
@@ -184,20 +186,20 @@ abbrev pub count_traps : Scalar → Range → Bool
 count_traps scalar s = not (int_le (pos 0) s.low && int_lt s.high (pos (bits_of scalar)))
 
 -- whether the intervals leave a trap open
-abbrev pub range_traps : Op → Scalar → Range → Range → Bool
-range_traps Add scalar r s = is_signed scalar && lies_outside (type_range scalar) (sum_range r s)
-range_traps Sub scalar r s = is_signed scalar && lies_outside (type_range scalar) (difference_range r s)
-range_traps Mul scalar r s = is_signed scalar && lies_outside (type_range scalar) (product_range r s)
-range_traps Div scalar r s = division_traps scalar r s
-range_traps Rem scalar r s = division_traps scalar r s
-range_traps And scalar r s = false
-range_traps Or scalar r s = false
-range_traps Xor scalar r s = false
-range_traps Shl scalar r s = count_traps scalar s
-range_traps Shr scalar r s = count_traps scalar s
+abbrev pub range_traps : Mode → Op → Scalar → Range → Range → Bool
+range_traps mode Add scalar r s = traps_outside mode scalar && lies_outside (type_range scalar) (sum_range r s)
+range_traps mode Sub scalar r s = traps_outside mode scalar && lies_outside (type_range scalar) (difference_range r s)
+range_traps mode Mul scalar r s = traps_outside mode scalar && lies_outside (type_range scalar) (product_range r s)
+range_traps mode Div scalar r s = division_traps scalar r s
+range_traps mode Rem scalar r s = division_traps scalar r s
+range_traps mode And scalar r s = false
+range_traps mode Or scalar r s = false
+range_traps mode Xor scalar r s = false
+range_traps mode Shl scalar r s = count_traps scalar s
+range_traps mode Shr scalar r s = count_traps scalar s
 
-unfoldable pub may_trap_of : Op → Scalar → AbsVal → AbsVal → Bool
-may_trap_of op scalar a b = not (is_pointer scalar) && (vals_trap op scalar a.vals b.vals && range_traps op scalar a.range b.range)
+unfoldable pub may_trap_of : Mode → Op → Scalar → AbsVal → AbsVal → Bool
+may_trap_of mode op scalar a b = not (is_pointer scalar) && (vals_trap mode op scalar a.vals b.vals && range_traps mode op scalar a.range b.range)
 
 -- ---- bringing into a scalar
 abbrev pub bits_in : Scalar → Bits → Bits

@@ -2,6 +2,7 @@
 use Rattle.std.specs.Prelude.{◌≡◌, ℕ, ◌<◌, ◌+◌, ◌-◌, ◌*◌, ◌%◌, ◌^◌, ◌==◌, ℤ, pos, ◌-ℤ◌, bit_and, unsigned_abs, Bool, true, false, not, if◌then◌else◌, Option, Some, None, Result, Ok, Err}
 use Rattle.std.specs.Int.{trailing_ones, w64, int_shr}
 use Rattle.gimple_ir.specs.declared.scalar.Scalar.{Scalar}
+use Rattle.gimple_ir.specs.declared.scalar.Mode.{Mode}
 use Rattle.gimple_ir.specs.declared.scalar.Op.{Op}
 use Rattle.gimple_ir.specs.declared.scalar.Op.TheVariants.{Add, Sub, Mul, Div, Rem, And, Or, Xor, Shl, Shr}
 use Rattle.gimple_ir.specs.declared.scalar.Cmp.{Cmp}
@@ -50,8 +51,8 @@ both_known (Some z) None f = unknown_bits
 both_known None w f = unknown_bits
 
 -- all bits of a quotient or remainder of numbers that are known
-abbrev pub divided_bits : Op → Scalar → Bits → Bits → Bits
-divided_bits op scalar a b = both_known (number_of scalar a) (number_of scalar b) (λ z w. result_bits scalar (op_of op scalar z w))
+abbrev pub divided_bits : Mode → Op → Scalar → Bits → Bits → Bits
+divided_bits mode op scalar a b = both_known (number_of scalar a) (number_of scalar b) (λ z w. result_bits scalar (op_of mode op scalar z w))
 
 -- the known bits of a number with those above its scalar: zeros of an unsigned one, of a signed one its sign bit
 abbrev pub mask_above : Scalar → Bits → ℤ
@@ -76,17 +77,17 @@ abbrev pub IsKnownCount : Scalar → Option ℤ → Option ℕ → Type 0
 IsKnownCount scalar n None = (f : ℕ → Bits) → if_count scalar n f ≡ unknown_bits
 IsKnownCount scalar n (Some k) = ((f : ℕ → Bits) → if_count scalar n f ≡ f k) × (k < 64)
 
-abbrev pub op_bits : Op → Scalar → Scalar → Bits → Bits → Bits
-op_bits Add scalar other a b = low_sum a b
-op_bits Sub scalar other a b = low_difference a b
-op_bits Mul scalar other a b = low_product a b
-op_bits Div scalar other a b = divided_bits Div scalar a b
-op_bits Rem scalar other a b = divided_bits Rem scalar a b
-op_bits And scalar other a b = and_known a b
-op_bits Or scalar other a b = or_known a b
-op_bits Xor scalar other a b = xor_known a b
-op_bits Shl scalar other a b = if_count scalar (number_of other b) (λ k. shifted_left scalar a k)
-op_bits Shr scalar other a b = if_count scalar (number_of other b) (λ k. shifted_right scalar a k)
+abbrev pub op_bits : Mode → Op → Scalar → Scalar → Bits → Bits → Bits
+op_bits mode Add scalar other a b = low_sum a b
+op_bits mode Sub scalar other a b = low_difference a b
+op_bits mode Mul scalar other a b = low_product a b
+op_bits mode Div scalar other a b = divided_bits mode Div scalar a b
+op_bits mode Rem scalar other a b = divided_bits mode Rem scalar a b
+op_bits mode And scalar other a b = and_known a b
+op_bits mode Or scalar other a b = or_known a b
+op_bits mode Xor scalar other a b = xor_known a b
+op_bits mode Shl scalar other a b = if_count scalar (number_of other b) (λ k. shifted_left scalar a k)
+op_bits mode Shr scalar other a b = if_count scalar (number_of other b) (λ k. shifted_right scalar a k)
 
 -- ---- comparisons
 abbrev pub truth : Bool → ℤ

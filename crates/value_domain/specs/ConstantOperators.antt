@@ -1,7 +1,8 @@
 -- The results of operators on constants, and sets of results.
 use Rattle.std.specs.Prelude.{ℕ, ◌==◌, ℤ, ◌+ℤ◌, Bool, true, false, not, ◌&&◌, int_le, if◌then◌else◌, List, [], ◌∷◌, Option, Some, None, Result, Ok, Err}
 use Rattle.gimple_ir.specs.declared.scalar.Scalar.{Scalar}
-use Rattle.gimple_ir.specs.declared.scalar.Scalar.TheVariants.{I64, Ptr}
+use Rattle.gimple_ir.specs.declared.scalar.Scalar.TheVariants.{I64}
+use Rattle.gimple_ir.specs.declared.scalar.Mode.{Mode}
 use Rattle.gimple_ir.specs.declared.scalar.Op.{Op}
 use Rattle.gimple_ir.specs.declared.scalar.Op.TheVariants.{Shl, Shr}
 use Rattle.gimple_ir.specs.declared.scalar.Cmp.{Cmp}
@@ -10,6 +11,7 @@ use Rattle.gimple_ir.specs.declared.value.Constant.{Constant}
 use Rattle.gimple_ir.specs.declared.value.Constant.TheVariants.{Int, Null, Global}
 use Rattle.gimple_core.specs.Operators.{in_scalar, wrapped, op_of, cmp_of}
 use Rattle.gimple_core.specs.Run.{pointers_compare}
+use Rattle.gimple_core.specs.Statements.{is_pointer}
 use Rattle.lattice_parts.specs.Sets.{gathered, mapped, kept_members}
 use Rattle.value_domain.specs.declared.vals.Vals.{Vals}
 use Rattle.value_domain.specs.declared.vals.Vals.TheVariants.{Any, Nothing, Among}
@@ -17,10 +19,6 @@ use Rattle.value_domain.specs.Constants.{before}
 use Rattle.value_domain.specs.BitOperators.{truth}
 use Rattle.value_domain.specs.RangeOperators.{lowest, highest}
 use Rattle.value_domain.specs.Values.{vals_capped}
-
-abbrev pub is_pointer : Scalar → Bool
-is_pointer Ptr = true
-is_pointer scalar = false
 
 -- whether a constant is a value of the scalar
 abbrev pub constant_in : Scalar → Constant → Bool
@@ -41,8 +39,8 @@ abbrev pub number_result : Result ℤ TrapKind → Option Constant
 number_result (Ok z) = Some (Int z)
 number_result (Err kind) = None
 
-abbrev pub op_numbers : Op → Scalar → ℤ → ℤ → Option Constant
-op_numbers op scalar z w = if in_scalar scalar z && may_stand_right op scalar w then number_result (op_of op scalar z w) else None
+abbrev pub op_numbers : Mode → Op → Scalar → ℤ → ℤ → Option Constant
+op_numbers mode op scalar z w = if in_scalar scalar z && may_stand_right op scalar w then number_result (op_of mode op scalar z w) else None
 
 -- a pointer moved by a number of bytes
 abbrev pub moved_constant : Constant → Constant → Option Constant
@@ -50,13 +48,13 @@ moved_constant Null d = Some Null
 moved_constant (Global k o) (Int n) = if in_scalar I64 n then Some (Global k (wrapped I64 (o +ℤ n))) else None
 moved_constant c d = None
 
-abbrev pub number_constants : Op → Scalar → Constant → Constant → Option Constant
-number_constants op scalar (Int z) (Int w) = op_numbers op scalar z w
-number_constants op scalar c d = None
+abbrev pub number_constants : Mode → Op → Scalar → Constant → Constant → Option Constant
+number_constants mode op scalar (Int z) (Int w) = op_numbers mode op scalar z w
+number_constants mode op scalar c d = None
 
 -- the result of an operator, or None where it traps
-abbrev pub op_constant : Op → Scalar → Constant → Constant → Option Constant
-op_constant op scalar c d = if is_pointer scalar then moved_constant c d else number_constants op scalar c d
+abbrev pub op_constant : Mode → Op → Scalar → Constant → Constant → Option Constant
+op_constant mode op scalar c d = if is_pointer scalar then moved_constant c d else number_constants mode op scalar c d
 
 abbrev pub same_constant : Constant → Constant → Bool
 same_constant Null Null = true

@@ -1,5 +1,5 @@
 -- Which values an abstract value holds, and which abstract values are of a scalar.
-use Rattle.std.specs.Prelude.{◌≡◌, ℕ, ◌^◌, ◌<◌, ◌⊎◌, ℤ, pos, Bool, true, false, not, ◌&&◌, if◌then◌else◌, List, Option, Some, None}
+use Rattle.std.specs.Prelude.{◌≡◌, ℕ, ◌^◌, ◌<◌, ◌⊎◌, ℤ, pos, Bool, true, false, if◌then◌else◌, List, Option, Some, None}
 use Rattle.gimple_ir.specs.declared.scalar.Scalar.{Scalar}
 use Rattle.gimple_ir.specs.declared.scalar.Scalar.TheVariants.{I64}
 use Rattle.gimple_ir.specs.declared.scalar.Op.{Op}
@@ -9,22 +9,23 @@ use Rattle.gimple_ir.specs.declared.scalar.Cmp.TheVariants.{Eq, Ne}
 use Rattle.gimple_ir.specs.declared.value.Object.{Object}
 use Rattle.gimple_ir.specs.declared.value.Object.TheVariants.{Global as GlobalObject, Local as LocalObject}
 use Rattle.gimple_ir.specs.declared.value.Value.{Value}
-use Rattle.gimple_ir.specs.declared.value.Value.TheVariants.{Int as Number, Null as NullPointer, At}
+use Rattle.gimple_ir.specs.declared.value.Value.TheVariants.{Int as Number, Null as NullPointer, At, Code}
 use Rattle.gimple_ir.specs.declared.value.Constant.{Constant}
 use Rattle.gimple_ir.specs.declared.value.Constant.TheVariants.{Int, Null, Global}
-use Rattle.gimple_core.specs.Operators.{bits_of, in_scalar}
+use Rattle.gimple_core.specs.Operators.{bits_of}
+use Rattle.gimple_core.specs.Statements.{is_pointer}
 use Rattle.lattice_parts.specs.Sets.{Has, Each}
 use Rattle.value_domain.specs.declared.vals.Vals.{Vals}
 use Rattle.value_domain.specs.declared.vals.Vals.TheVariants.{Any, Nothing, Among}
 use Rattle.value_domain.specs.declared.abs_val.AbsVal.{AbsVal}
 use Rattle.value_domain.specs.Bitmasks.{pattern, Agrees}
 use Rattle.value_domain.specs.Ranges.{InRange, Within}
-use Rattle.value_domain.specs.ConstantOperators.{is_pointer, constant_in}
+use Rattle.value_domain.specs.ConstantOperators.{constant_in}
 use Rattle.value_domain.specs.AbsOperators.{span_of}
 use Rattle.value_domain.specs.Values.{is_none_val}
 
 -- ---- values
--- null and addresses of globals are constants, addresses of locals are not
+-- null and addresses of globals are constants, addresses of locals and functions are not
 abbrev pub object_constant : Object → ℤ → Option Constant
 object_constant (GlobalObject k) offset = Some (Global k offset)
 object_constant (LocalObject serial k) offset = None
@@ -33,18 +34,14 @@ abbrev pub constant_of : Value → Option Constant
 constant_of (Number z) = Some (Int z)
 constant_of NullPointer = Some Null
 constant_of (At object offset) = object_constant object offset
+constant_of (Code name) = None
 
 -- the number that bits and intervals speak of; of a pointer they say nothing, and it counts as 0
 abbrev pub number_part : Value → ℤ
 number_part (Number z) = z
 number_part NullPointer = pos 0
 number_part (At object offset) = pos 0
-
--- whether a value is one of the scalar
-abbrev pub value_of_scalar : Scalar → Value → Bool
-value_of_scalar scalar (Number z) = not (is_pointer scalar) && in_scalar scalar z
-value_of_scalar scalar NullPointer = is_pointer scalar
-value_of_scalar scalar (At object offset) = is_pointer scalar
+number_part (Code name) = pos 0
 
 -- ---- holding
 abbrev pub IsListed : Option Constant → List Constant → Type 0

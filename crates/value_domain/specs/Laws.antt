@@ -1,45 +1,47 @@
 -- What is promised of the operators, with a limit of constants and lawful thresholds.
 use Rattle.std.specs.Prelude.{◌≡◌, ◌⊎◌, ℕ, ℤ, true, false, List, Some, Result, Ok}
 use Rattle.gimple_ir.specs.declared.scalar.Scalar.{Scalar}
+use Rattle.gimple_ir.specs.declared.scalar.Mode.{Mode}
 use Rattle.gimple_ir.specs.declared.scalar.Op.{Op}
 use Rattle.gimple_ir.specs.declared.scalar.Cmp.{Cmp}
 use Rattle.gimple_ir.specs.declared.value.TrapKind.{TrapKind}
 use Rattle.gimple_ir.specs.declared.value.Value.{Value}
 use Rattle.gimple_ir.specs.declared.value.Constant.{Constant}
 use Rattle.gimple_core.specs.Run.{arith_of, compares, one_if, converted}
+use Rattle.gimple_core.specs.Statements.{is_pointer}
+use Rattle.gimple_core.specs.State.{is_of}
 use Rattle.value_domain.specs.declared.abs_val.AbsVal.{AbsVal}
-use Rattle.value_domain.specs.ConstantOperators.{is_pointer}
 use Rattle.value_domain.specs.AbsOperators.{abs_op_of, abs_cmp_of, abs_convert_of, abs_met, refined_of, known_of, may_trap_of, brought_into, top_of, exactly_of}
 use Rattle.value_domain.specs.Values.{FitsWith, abs_val_below, abs_val_joined, kind_of, limit_in, thresholds_in}
 use Rattle.value_domain.specs.Thresholds.{IsLawful}
-use Rattle.value_domain.specs.Holding.{Holds, constant_of, value_of_scalar, IsOf, IsAllowed, MayCompare}
+use Rattle.value_domain.specs.Holding.{Holds, constant_of, IsOf, IsAllowed, MayCompare}
 
 abbrev pub done : Value → Result Value TrapKind
 done x = Ok x
 
 -- where the sides hold the values and the operator does not trap, the result is in the abstract result
 abbrev pub OpHolds : Type 0
-OpHolds = (most : ℕ) (ts : List ℤ) → IsLawful ts → (op : Op) (scalar other : Scalar) → IsAllowed op scalar other
+OpHolds = (most : ℕ) (ts : List ℤ) → IsLawful ts → (mode : Mode) (op : Op) (scalar other : Scalar) → IsAllowed op scalar other
     → (a b : AbsVal) → FitsWith most ts a → IsOf scalar a → FitsWith most ts b → IsOf other b
-    → (v w x : Value) → value_of_scalar scalar v ≡ true → value_of_scalar other w ≡ true → Holds v a → Holds w b
-    → arith_of scalar v op w ≡ done x → Holds x (abs_op_of op scalar other most ts a b)
+    → (v w x : Value) → is_of scalar v ≡ true → is_of other w ≡ true → Holds v a → Holds w b
+    → arith_of mode scalar v op w ≡ done x → Holds x (abs_op_of mode op scalar other most ts a b)
 
 -- the abstract result fits the kind and is of the scalar
 abbrev pub OpFits : Type 0
-OpFits = (most : ℕ) (ts : List ℤ) → IsLawful ts → (op : Op) (scalar other : Scalar) → IsAllowed op scalar other
+OpFits = (most : ℕ) (ts : List ℤ) → IsLawful ts → (mode : Mode) (op : Op) (scalar other : Scalar) → IsAllowed op scalar other
     → (a b : AbsVal) → FitsWith most ts a → IsOf scalar a → FitsWith most ts b → IsOf other b
-    → FitsWith most ts (abs_op_of op scalar other most ts a b) × IsOf scalar (abs_op_of op scalar other most ts a b)
+    → FitsWith most ts (abs_op_of mode op scalar other most ts a b) × IsOf scalar (abs_op_of mode op scalar other most ts a b)
 
 -- it rises with each side
 abbrev pub OpRises : Type 0
-OpRises = (most : ℕ) (ts : List ℤ) → IsLawful ts → (op : Op) (scalar other : Scalar) → IsAllowed op scalar other
+OpRises = (most : ℕ) (ts : List ℤ) → IsLawful ts → (mode : Mode) (op : Op) (scalar other : Scalar) → IsAllowed op scalar other
     → (a b c d : AbsVal) → FitsWith most ts a → IsOf scalar a → FitsWith most ts b → IsOf other b → FitsWith most ts c → IsOf scalar c → FitsWith most ts d → IsOf other d
-    → abs_val_below a c ≡ true → abs_val_below b d ≡ true → abs_val_below (abs_op_of op scalar other most ts a b) (abs_op_of op scalar other most ts c d) ≡ true
+    → abs_val_below a c ≡ true → abs_val_below b d ≡ true → abs_val_below (abs_op_of mode op scalar other most ts a b) (abs_op_of mode op scalar other most ts c d) ≡ true
 
 abbrev pub CmpHolds : Type 0
 CmpHolds = (most : ℕ) (ts : List ℤ) → IsLawful ts → (target : Scalar) (cmp : Cmp) (scalar : Scalar) → is_pointer target ≡ false
     → (a b : AbsVal) → FitsWith most ts a → IsOf scalar a → FitsWith most ts b → IsOf scalar b
-    → (v w : Value) → value_of_scalar scalar v ≡ true → value_of_scalar scalar w ≡ true → Holds v a → Holds w b
+    → (v w : Value) → is_of scalar v ≡ true → is_of scalar w ≡ true → Holds v a → Holds w b
     → Holds (one_if (compares v cmp w)) (abs_cmp_of target cmp scalar most a b)
 
 abbrev pub CmpFits : Type 0
@@ -53,7 +55,7 @@ CmpRises = (most : ℕ) (ts : List ℤ) → IsLawful ts → (target : Scalar) (c
 
 abbrev pub ConvertHolds : Type 0
 ConvertHolds = (most : ℕ) (ts : List ℤ) → IsLawful ts → (target source : Scalar) → is_pointer target ≡ false → is_pointer source ≡ false
-    → (a : AbsVal) → FitsWith most ts a → IsOf source a → (v : Value) → value_of_scalar source v ≡ true → Holds v a
+    → (a : AbsVal) → FitsWith most ts a → IsOf source a → (v : Value) → is_of source v ≡ true → Holds v a
     → Holds (converted target v) (abs_convert_of target source most ts a)
 
 abbrev pub ConvertFits : Type 0
@@ -86,7 +88,7 @@ MeetFits = (most : ℕ) (ts : List ℤ) (scalar : Scalar) (a b : AbsVal) → Fit
 abbrev pub RefineHolds : Type 0
 RefineHolds = (most : ℕ) (ts : List ℤ) → IsLawful ts → (cmp : Cmp) (scalar : Scalar) → MayCompare cmp scalar
     → (a b : AbsVal) → FitsWith most ts a → IsOf scalar a → FitsWith most ts b → IsOf scalar b
-    → (v w : Value) → value_of_scalar scalar v ≡ true → value_of_scalar scalar w ≡ true → Holds v a → Holds w b → compares v cmp w ≡ true
+    → (v w : Value) → is_of scalar v ≡ true → is_of scalar w ≡ true → Holds v a → Holds w b → compares v cmp w ≡ true
     → Holds v (refined_of cmp ts a b)
 
 abbrev pub RefineFits : Type 0
@@ -97,7 +99,7 @@ RefineFits = (most : ℕ) (ts : List ℤ) → IsLawful ts → (cmp : Cmp) (scala
 -- a known constant is the value
 abbrev pub KnownHolds : Type 0
 KnownHolds = (most : ℕ) (ts : List ℤ) (scalar : Scalar) (a : AbsVal) → FitsWith most ts a → IsOf scalar a
-    → (v : Value) (c : Constant) → value_of_scalar scalar v ≡ true → Holds v a → known_of scalar a ≡ Some c → constant_of v ≡ Some c
+    → (v : Value) (c : Constant) → is_of scalar v ≡ true → Holds v a → known_of scalar a ≡ Some c → constant_of v ≡ Some c
 
 -- what is brought into a scalar is of it, rises with the value, and a value of the scalar stays as it is
 abbrev pub BroughtFits : Type 0
@@ -112,7 +114,7 @@ BroughtSame = (most : ℕ) (ts : List ℤ) (scalar : Scalar) (a : AbsVal) → Fi
 
 -- what is brought into a scalar holds each value of the scalar that was held
 abbrev pub BroughtHolds : Type 0
-BroughtHolds = (most : ℕ) (ts : List ℤ) (scalar : Scalar) (a : AbsVal) → FitsWith most ts a → (v : Value) → value_of_scalar scalar v ≡ true → Holds v a → Holds v (brought_into scalar a)
+BroughtHolds = (most : ℕ) (ts : List ℤ) (scalar : Scalar) (a : AbsVal) → FitsWith most ts a → (v : Value) → is_of scalar v ≡ true → Holds v a → Holds v (brought_into scalar a)
 
 abbrev pub MeetRises : Type 0
 MeetRises = (most : ℕ) (ts : List ℤ) (a b c d : AbsVal) → FitsWith most ts a → FitsWith most ts b → FitsWith most ts c → FitsWith most ts d
@@ -125,21 +127,21 @@ RefineRises = (most : ℕ) (ts : List ℤ) → IsLawful ts → (cmp : Cmp) (scal
 
 -- where `may_trap` is false no pair of values traps
 abbrev pub NoTrap : Type 0
-NoTrap = (most : ℕ) (ts : List ℤ) (op : Op) (scalar other : Scalar) → IsAllowed op scalar other
+NoTrap = (most : ℕ) (ts : List ℤ) (mode : Mode) (op : Op) (scalar other : Scalar) → IsAllowed op scalar other
     → (a b : AbsVal) → FitsWith most ts a → IsOf scalar a → FitsWith most ts b → IsOf other b
-    → (v w : Value) → value_of_scalar scalar v ≡ true → value_of_scalar other w ≡ true → Holds v a → Holds w b
-    → may_trap_of op scalar a b ≡ false → (x : Value) × (arith_of scalar v op w ≡ done x)
+    → (v w : Value) → is_of scalar v ≡ true → is_of other w ≡ true → Holds v a → Holds w b
+    → may_trap_of mode op scalar a b ≡ false → (x : Value) × (arith_of mode scalar v op w ≡ done x)
 
 -- the top of a scalar holds each value of it
 abbrev pub TopHolds : Type 0
-TopHolds = (scalar : Scalar) (v : Value) → value_of_scalar scalar v ≡ true → Holds v (top_of scalar)
+TopHolds = (scalar : Scalar) (v : Value) → is_of scalar v ≡ true → Holds v (top_of scalar)
 
 abbrev pub TopFits : Type 0
 TopFits = (most : ℕ) (ts : List ℤ) → IsLawful ts → (scalar : Scalar) → FitsWith most ts (top_of scalar) × IsOf scalar (top_of scalar)
 
 -- what holds a constant of the scalar holds the value that it stands for
 abbrev pub AloneHolds : Type 0
-AloneHolds = (most : ℕ) (ts : List ℤ) → IsLawful ts → (scalar : Scalar) (v : Value) (c : Constant) → value_of_scalar scalar v ≡ true → constant_of v ≡ Some c
+AloneHolds = (most : ℕ) (ts : List ℤ) → IsLawful ts → (scalar : Scalar) (v : Value) (c : Constant) → is_of scalar v ≡ true → constant_of v ≡ Some c
     → Holds v (exactly_of scalar most ts c)
 
 abbrev pub AloneFits : Type 0

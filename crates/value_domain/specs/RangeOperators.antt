@@ -1,9 +1,11 @@
 -- Intervals of results, and rounding outwards to thresholds.
-use Rattle.std.specs.Prelude.{◌<◌, ◌≤◌, length, slice_index_or, ◌-◌, ◌^◌, Option, Some, None, ℕ, zero, suc, ℤ, pos, negsuc, ◌+ℤ◌, ◌-ℤ◌, ◌≤ℤ◌, ◌<ℤ◌, Bool, ◌||◌, ◌&&◌, int_le, int_lt, unsigned_abs, if◌then◌else◌, List, [], ◌∷◌}
+use Rattle.std.specs.Prelude.{◌<◌, ◌≤◌, length, slice_index_or, ◌-◌, ◌^◌, Option, Some, None, ℕ, zero, suc, ℤ, pos, negsuc, ◌+ℤ◌, ◌-ℤ◌, ◌≤ℤ◌, ◌<ℤ◌, Bool, false, ◌||◌, ◌&&◌, int_le, int_lt, unsigned_abs, if◌then◌else◌, List, [], ◌∷◌}
 use Rattle.std.specs.Int.{int_min, int_max}
 use Rattle.value_domain.specs.declared.range.Range.{Range}
 use Rattle.value_domain.specs.Ranges.{meet_range, whole_unless, sum_range, difference_range, product_range, quotient_range}
 use Rattle.gimple_ir.specs.declared.scalar.Scalar.{Scalar}
+use Rattle.gimple_ir.specs.declared.scalar.Mode.{Mode}
+use Rattle.gimple_ir.specs.declared.scalar.Mode.TheVariants.{Trap, Wrap}
 use Rattle.gimple_ir.specs.declared.scalar.Op.{Op}
 use Rattle.gimple_ir.specs.declared.scalar.Op.TheVariants.{Add, Sub, Mul, Div, Rem, And, Or, Xor, Shl, Shr}
 use Rattle.gimple_ir.specs.declared.scalar.Cmp.{Cmp}
@@ -44,9 +46,14 @@ abbrev pub whole_each : Range → Option Range → Option Range
 whole_each t None = None
 whole_each t (Some r) = Some (whole_unless t r)
 
--- an exact interval brought into the scalar
-abbrev pub fitted : Scalar → Option Range → Option Range
-fitted scalar o = if is_signed scalar then meet_each (type_range scalar) o else whole_each (type_range scalar) o
+-- whether a sum, difference or product outside the scalar traps; else it wraps
+abbrev pub traps_outside : Mode → Scalar → Bool
+traps_outside Trap scalar = is_signed scalar
+traps_outside Wrap scalar = false
+
+-- an exact interval of a sum, difference or product brought into the scalar
+abbrev pub fitted : Mode → Scalar → Option Range → Option Range
+fitted mode scalar o = if traps_outside mode scalar then meet_each (type_range scalar) o else whole_each (type_range scalar) o
 
 -- of the scalar, and not empty
 pub record IsInside (scalar : Scalar) (r : Range) : Type 0 where
@@ -109,17 +116,17 @@ or_range type r s = if int_le (pos 0) r.low && int_le (pos 0) s.low then record 
 abbrev pub shr_range : Range → Range
 shr_range r = record { low = int_min r.low (pos 0); high = int_max r.high (negsuc 0) }
 
-abbrev pub op_range : Op → Scalar → Range → Range → Option Range
-op_range Add scalar r s = fitted scalar (sum_range r s)
-op_range Sub scalar r s = fitted scalar (difference_range r s)
-op_range Mul scalar r s = fitted scalar (product_range r s)
-op_range Div scalar r s = meet_each (type_range scalar) (quotient_range r s)
-op_range Rem scalar r s = remainder_range r s
-op_range And scalar r s = Some (and_range (type_range scalar) r s)
-op_range Or scalar r s = Some (or_range (type_range scalar) r s)
-op_range Xor scalar r s = Some (or_range (type_range scalar) r s)
-op_range Shl scalar r s = Some (type_range scalar)
-op_range Shr scalar r s = Some (shr_range r)
+abbrev pub op_range : Mode → Op → Scalar → Range → Range → Option Range
+op_range mode Add scalar r s = fitted mode scalar (sum_range r s)
+op_range mode Sub scalar r s = fitted mode scalar (difference_range r s)
+op_range mode Mul scalar r s = fitted mode scalar (product_range r s)
+op_range mode Div scalar r s = meet_each (type_range scalar) (quotient_range r s)
+op_range mode Rem scalar r s = remainder_range r s
+op_range mode And scalar r s = Some (and_range (type_range scalar) r s)
+op_range mode Or scalar r s = Some (or_range (type_range scalar) r s)
+op_range mode Xor scalar r s = Some (or_range (type_range scalar) r s)
+op_range mode Shl scalar r s = Some (type_range scalar)
+op_range mode Shr scalar r s = Some (shr_range r)
 
 -- whether the comparison holds of all pairs
 abbrev pub surely : Cmp → Range → Range → Bool

@@ -13,7 +13,7 @@ use Rattle.value_domain.specs.ConstantOperators.{constant_in, op_constant, cmp_c
 use Rattle.value_domain.specs.AbsOperators.{lies_in}
 
 abbrev pub rule_constant : Rule → Constant → Constant → Option Constant
-rule_constant (Arithmetic op scalar) c d = op_constant op scalar c d
+rule_constant (Arithmetic mode op scalar) c d = op_constant mode op scalar c d
 rule_constant (Comparison cmp) c d = cmp_constant cmp c d
 rule_constant (Conversion target) c d = convert_constant target d
 

@@ -4,7 +4,7 @@ use Rattle.gimple_ir.specs.declared.scalar.Scalar.{Scalar}
 use Rattle.gimple_ir.specs.declared.operand.Operand.{Operand}
 use Rattle.gimple_ir.specs.declared.operand.Operand.TheVariants.{Reg, Number, Null, Address}
 use Rattle.gimple_ir.specs.declared.statement.Stmt.{Stmt}
-use Rattle.gimple_ir.specs.declared.statement.Stmt.TheVariants.{Copy, Arith, Compare, Convert, Load, Store, Call, Get, Put, Abort}
+use Rattle.gimple_ir.specs.declared.statement.Stmt.TheVariants.{Copy, Arith, Compare, Convert, Load, Store, Call, Indirect, Get, Put, Abort}
 use Rattle.gimple_ir.specs.declared.block.Case.{Case}
 use Rattle.gimple_ir.specs.declared.block.End.{End}
 use Rattle.gimple_ir.specs.declared.block.End.TheVariants.{Goto, If, Switch, Return}
@@ -51,6 +51,7 @@ stmt_noted (Convert to scalar from) found = operand_noted from found
 stmt_noted (Load to scalar place) found = found
 stmt_noted (Store scalar place from) found = operand_noted from found
 stmt_noted (Call to callee arguments) found = operands_noted arguments found
+stmt_noted (Indirect to signature callee arguments) found = operands_noted arguments found
 stmt_noted (Get to) found = found
 stmt_noted (Put from) found = operand_noted from found
 stmt_noted Abort found = found

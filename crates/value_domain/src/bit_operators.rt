@@ -7,7 +7,7 @@ ghost use Rattle.value_domain.specs.BitOperators.{number_of, exact_bits, unknown
 ghost use Rattle.value_domain.specs.Bitmasks.{conflict};
 
 use crate::bits::Bits;
-use gimple_core::{Cmp, Op, Scalar, bits, eval_cmp, eval_op, low, modulus, signed, wrap};
+use gimple_core::{Cmp, Mode, Op, Scalar, bits, eval_cmp, eval_op, low, modulus, signed, wrap};
 
 /// No bit is known.
 pub(crate) fn unknown() -> Bits
@@ -96,12 +96,12 @@ fn product(left: Bits, right: Bits) -> Bits
 }
 
 /// All bits of a quotient or remainder of numbers that are known.
-fn divided(op: Op, scalar: Scalar, left: Bits, right: Bits) -> Bits
+fn divided(mode: Mode, op: Op, scalar: Scalar, left: Bits, right: Bits) -> Bits
     requires { (op ≡ Op.Div) ⊎ (op ≡ Op.Rem) }
-    ensures { result ≡ divided_bits op scalar left right }
+    ensures { result ≡ divided_bits mode op scalar left right }
 {
     match (number(scalar, left), number(scalar, right)) {
-        (Some(x), Some(y)) => match eval_op(op, scalar, x, y) {
+        (Some(x), Some(y)) => match eval_op(mode, op, scalar, x, y) {
             Ok(value) => exact(scalar, value),
             Err(_) => unknown(),
         },
@@ -168,14 +168,21 @@ fn count_of(scalar: Scalar, other: Scalar, right: Bits) -> Option<u32>
 }
 
 /// What is known of the bits of an operator's result.
-pub(crate) fn bits_of_op(op: Op, scalar: Scalar, other: Scalar, left: Bits, right: Bits) -> Bits
-    ensures { result ≡ op_bits op scalar other left right }
+pub(crate) fn bits_of_op(
+    mode: Mode,
+    op: Op,
+    scalar: Scalar,
+    other: Scalar,
+    left: Bits,
+    right: Bits,
+) -> Bits
+    ensures { result ≡ op_bits mode op scalar other left right }
 {
     match op {
         Op::Add => sum(left, right),
         Op::Sub => difference(left, right),
         Op::Mul => product(left, right),
-        Op::Div | Op::Rem => divided(op, scalar, left, right),
+        Op::Div | Op::Rem => divided(mode, op, scalar, left, right),
         Op::And => left.and(right),
         Op::Or => left.or(right),
         Op::Xor => left.xor(right),

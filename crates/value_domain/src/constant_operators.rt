@@ -2,24 +2,25 @@
 
 ghost use Rattle.std.specs.Prelude.{◌≡◌, [], OnOk, OnErr, IfOk, Bool, true, Option, IsTrue, ◌+ℤ◌};
 ghost use Rattle.gimple_core.specs.Operators.{in_scalar, wrapped};
+ghost use Rattle.gimple_core.specs.Statements.{is_pointer};
 ghost use Rattle.lattice_parts.specs.Sets.{placed_some, mapped, gathered, kept_members, has_by, same_by};
 ghost use Rattle.value_domain.specs.AbsOperators.{pair_traps, row_traps_of, some_traps, vals_trap, vals_met, vals_without, single_of};
 ghost use Rattle.value_domain.specs.Constants.{before};
-ghost use Rattle.value_domain.specs.ConstantOperators.{is_pointer, constant_in, in_word, may_stand_right, op_numbers, moved_constant, op_constant, same_constant, compared_constants, cmp_constant, convert_constant, vals_of};
+ghost use Rattle.value_domain.specs.ConstantOperators.{constant_in, in_word, may_stand_right, op_numbers, moved_constant, op_constant, same_constant, compared_constants, cmp_constant, convert_constant, vals_of};
 ghost use Rattle.value_domain.specs.Rules.{rule_constant, passes, rule_vals, converted_vals, tested_vals};
 
 use crate::constant::ConstantOrder;
 use crate::numbers::plus;
 use crate::range::Range;
 use crate::vals::{Vals, capped};
-use gimple_core::{Cmp, Constant, Op, OutOfMemory, Scalar, eval_cmp, eval_op, fits, wrap};
+use gimple_core::{Cmp, Constant, Mode, Op, OutOfMemory, Scalar, eval_cmp, eval_op, fits, wrap};
 use lattice_parts::{Order, has, place};
 use std::alloc::Global;
 
 /// What is done with constants.
 #[derive(Clone, Copy, Debug)]
 pub(crate) enum Rule {
-    Arithmetic(Op, Scalar),
+    Arithmetic(Mode, Op, Scalar),
     Comparison(Cmp),
     Conversion(Scalar),
 }
@@ -71,8 +72,8 @@ fn may_stand(op: Op, scalar: Scalar, value: i128) -> bool
     }
 }
 
-fn on_numbers(op: Op, scalar: Scalar, left: i128, right: i128) -> Option<Constant>
-    ensures { result ≡ op_numbers op scalar left right }
+fn on_numbers(mode: Mode, op: Op, scalar: Scalar, left: i128, right: i128) -> Option<Constant>
+    ensures { result ≡ op_numbers mode op scalar left right }
 {
     if !fits(scalar, left) {
         return None;
@@ -80,15 +81,15 @@ fn on_numbers(op: Op, scalar: Scalar, left: i128, right: i128) -> Option<Constan
     if !may_stand(op, scalar, right) {
         return None;
     }
-    match eval_op(op, scalar, left, right) {
+    match eval_op(mode, op, scalar, left, right) {
         Ok(value) => Some(Constant::Int(value)),
         Err(_) => None,
     }
 }
 
 /// Whether an operator traps on two constants.
-pub(crate) fn traps(op: Op, scalar: Scalar, left: Constant, right: Constant) -> bool
-    ensures { result ≡ pair_traps op scalar left right }
+pub(crate) fn traps(mode: Mode, op: Op, scalar: Scalar, left: Constant, right: Constant) -> bool
+    ensures { result ≡ pair_traps mode op scalar left right }
 {
     match (left, right) {
         (Constant::Int(x), Constant::Int(y)) => {
@@ -101,7 +102,7 @@ pub(crate) fn traps(op: Op, scalar: Scalar, left: Constant, right: Constant) -> 
             if !may_stand(op, scalar, y) {
                 return false;
             }
-            eval_op(op, scalar, x, y).is_err()
+            eval_op(mode, op, scalar, x, y).is_err()
         }
         (_, _) => false,
     }
@@ -134,14 +135,20 @@ fn moved(left: Constant, right: Constant) -> Option<Constant>
     }
 }
 
-fn on_constants(op: Op, scalar: Scalar, left: Constant, right: Constant) -> Option<Constant>
-    ensures { result ≡ op_constant op scalar left right }
+fn on_constants(
+    mode: Mode,
+    op: Op,
+    scalar: Scalar,
+    left: Constant,
+    right: Constant,
+) -> Option<Constant>
+    ensures { result ≡ op_constant mode op scalar left right }
 {
     if pointer(scalar) {
         return moved(left, right);
     }
     match (left, right) {
-        (Constant::Int(x), Constant::Int(y)) => on_numbers(op, scalar, x, y),
+        (Constant::Int(x), Constant::Int(y)) => on_numbers(mode, op, scalar, x, y),
         (_, _) => None,
     }
 }
@@ -189,7 +196,7 @@ fn result_of(rule: Rule, left: Constant, right: Constant) -> Option<Constant>
     ensures { result ≡ rule_constant rule left right }
 {
     match rule {
-        Rule::Arithmetic(op, scalar) => on_constants(op, scalar, left, right),
+        Rule::Arithmetic(mode, op, scalar) => on_constants(mode, op, scalar, left, right),
         Rule::Comparison(cmp) => {
             let holds = compares(cmp, left, right);
             Some(Constant::Int(if holds { 1 } else { 0 }))
@@ -417,22 +424,28 @@ pub(crate) fn single(vals: &Vals) -> Option<Constant>
     }
 }
 
-fn row_traps(op: Op, scalar: Scalar, left: Constant, right: &[Constant]) -> bool
-    ensures { result ≡ row_traps_of op scalar left right.now }
+fn row_traps(mode: Mode, op: Op, scalar: Scalar, left: Constant, right: &[Constant]) -> bool
+    ensures { result ≡ row_traps_of mode op scalar left right.now }
 {
     for at in 0..right.len() {
-        if traps(op, scalar, left, right[at]) {
+        if traps(mode, op, scalar, left, right[at]) {
             return true;
         }
     }
     false
 }
 
-fn some_pair_traps(op: Op, scalar: Scalar, left: &[Constant], right: &[Constant]) -> bool
-    ensures { result ≡ some_traps op scalar left.now right.now }
+fn some_pair_traps(
+    mode: Mode,
+    op: Op,
+    scalar: Scalar,
+    left: &[Constant],
+    right: &[Constant],
+) -> bool
+    ensures { result ≡ some_traps mode op scalar left.now right.now }
 {
     for at in 0..left.len() {
-        if row_traps(op, scalar, left[at], right) {
+        if row_traps(mode, op, scalar, left[at], right) {
             return true;
         }
     }
@@ -440,8 +453,8 @@ fn some_pair_traps(op: Op, scalar: Scalar, left: &[Constant], right: &[Constant]
 }
 
 /// Whether some pair of constants traps, which any leaves open.
-pub(crate) fn sets_trap(op: Op, scalar: Scalar, left: &Vals, right: &Vals) -> bool
-    ensures { result ≡ vals_trap op scalar left.now right.now }
+pub(crate) fn sets_trap(mode: Mode, op: Op, scalar: Scalar, left: &Vals, right: &Vals) -> bool
+    ensures { result ≡ vals_trap mode op scalar left.now right.now }
 {
     match (left, right) {
         (Vals::Any, _) => true,
@@ -455,7 +468,7 @@ pub(crate) fn sets_trap(op: Op, scalar: Scalar, left: &Vals, right: &Vals) -> bo
                 limit: _,
                 constants: others,
             },
-        ) => some_pair_traps(op, scalar, constants.as_slice(), others.as_slice()),
+        ) => some_pair_traps(mode, op, scalar, constants.as_slice(), others.as_slice()),
         (_, _) => false,
     }
 }

@@ -84,6 +84,12 @@ fn note_statement(found: &mut Vec<i128>, statement: &Stmt) -> Result<(), OutOfMe
             callee: _,
             arguments,
         } => note_operands(found, arguments.as_slice()),
+        Stmt::Indirect {
+            to: _,
+            signature: _,
+            callee: _,
+            arguments,
+        } => note_operands(found, arguments.as_slice()),
         Stmt::Put { from } => note_operand(found, from),
         _ => Ok(()),
     }

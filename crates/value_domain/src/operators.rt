@@ -1,10 +1,10 @@
 //! The operators on abstract values.
 
 ghost use Rattle.std.specs.Prelude.{◌≡◌, ◌⊎◌, ℕ, ℤ, List, Bool, true, false, Option, Some, None, IfOk, IsTrue};
+ghost use Rattle.gimple_core.specs.Statements.{is_pointer};
 ghost use Rattle.fix_engine.specs.Lattice.{AreAlike};
 ghost use Rattle.value_domain.specs.Values.{FitsAbsVal, FitsWith, abs_val_below, abs_val_joined, none_val, is_none_val};
 ghost use Rattle.gimple_core.specs.Operators.{is_signed};
-ghost use Rattle.value_domain.specs.ConstantOperators.{is_pointer};
 ghost use Rattle.value_domain.specs.Ranges.{meet_range};
 ghost use Rattle.value_domain.specs.RangeOperators.{IsInside, IsWords, IsSignedWords, allowed, rounded_each, type_range};
 ghost use Rattle.value_domain.specs.AbsOperators.{assembled, top_of, span_of, zero_range, bits_alone, range_alone, exactly_of, bits_under, range_under, abs_op_of, bits_compared, range_compared, abs_cmp_of, abs_convert_of, abs_met, refined_of, refined_proper, ordered_left, known_of, range_constant, may_trap_of, range_traps, division_traps, count_traps, lies_outside, has_number, bits_in, range_in, brought_into};
@@ -21,12 +21,12 @@ use crate::constant_operators::{
 use crate::numbers::{minus, numbers_of, plus};
 use crate::range::Range;
 use crate::range_operators::{
-    difference, product, range_converted, range_of_cmp, range_of_op, sum,
+    difference, product, range_converted, range_of_cmp, range_of_op, sum, traps_where_outside,
 };
 use crate::thresholds::Thresholds;
 use crate::vals::{Vals, capped};
 use fix_engine::Lattice;
-use gimple_core::{Cmp, Constant, Op, OutOfMemory, Scalar, bits, low, signed};
+use gimple_core::{Cmp, Constant, Mode, Op, OutOfMemory, Scalar, bits, low, signed};
 use std::alloc::Global;
 
 /// The value that holds nothing.
@@ -163,17 +163,18 @@ pub fn leq(left: &AbsVal, right: &AbsVal) -> bool
     Lattice::leq(left, right)
 }
 
-fn op_bits_of(op: Op, scalar: Scalar, other: Scalar, left: Bits, right: Bits) -> Bits
-    ensures { result ≡ bits_under op scalar other left right }
+fn op_bits_of(mode: Mode, op: Op, scalar: Scalar, other: Scalar, left: Bits, right: Bits) -> Bits
+    ensures { result ≡ bits_under mode op scalar other left right }
 {
     if pointer(scalar) {
         unknown()
     } else {
-        bits_of_op(op, scalar, other, left, right)
+        bits_of_op(mode, op, scalar, other, left, right)
     }
 }
 
 fn op_range_of(
+    mode: Mode,
     op: Op,
     scalar: Scalar,
     left: Range,
@@ -183,21 +184,22 @@ fn op_range_of(
     requires left { is_pointer scalar ≡ false → IsInside scalar left }
     requires right { is_pointer scalar ≡ false → IsWords right }
     requires same { is_pointer scalar ≡ false → op ≡ Op.Mul → IsInside scalar right }
-    ensures { result ≡ range_under op scalar limits.now.ends left right }
+    ensures { result ≡ range_under mode op scalar limits.now.ends left right }
 {
     if pointer(scalar) {
         return Some(zero());
     }
-    match range_of_op(op, scalar, left, right) {
+    match range_of_op(mode, op, scalar, left, right) {
         Some(range) => Some(limits.round(range)),
         None => None,
     }
 }
 
-/// What an operator makes of the values of its sides. `other` is the scalar of the right side.
+/// What an operator makes of the values of its sides, in a mode of arithmetic. `other` is the scalar of the right side.
 #[tactic(auto, unfolding(crate::specs::AbsOperators::abs_op_of))]
 pub fn abs_op(
     alloc: Global,
+    mode: Mode,
     op: Op,
     scalar: Scalar,
     other: Scalar,
@@ -210,7 +212,7 @@ pub fn abs_op(
     requires left_of { IsOf scalar left.now }
     requires right_fits { FitsWith limits.now.size limits.now.ends right.now }
     requires right_of { IsOf other right.now }
-    ensures { IfOk result (λ v. v ≡ abs_op_of op scalar other limits.now.size limits.now.ends left.now right.now) }
+    ensures { IfOk result (λ v. v ≡ abs_op_of mode op scalar other limits.now.size limits.now.ends left.now right.now) }
 {
     if left.range.is_empty() {
         return Ok(none());
@@ -221,12 +223,12 @@ pub fn abs_op(
     let vals = pairs(
         alloc,
         limits.limit(),
-        Rule::Arithmetic(op, scalar),
+        Rule::Arithmetic(mode, op, scalar),
         &left.vals,
         &right.vals,
     )?;
-    let bits = op_bits_of(op, scalar, other, left.bits, right.bits);
-    let range = op_range_of(op, scalar, left.range, right.range, limits);
+    let bits = op_bits_of(mode, op, scalar, other, left.bits, right.bits);
+    let range = op_range_of(mode, op, scalar, left.range, right.range, limits);
     Ok(assemble(vals, Some(bits), range))
 }
 
@@ -459,29 +461,29 @@ fn count_leaves(scalar: Scalar, right: Range) -> bool
 }
 
 /// Whether the intervals leave a trap open.
-pub(crate) fn range_leaves(op: Op, scalar: Scalar, left: Range, right: Range) -> bool
+pub(crate) fn range_leaves(mode: Mode, op: Op, scalar: Scalar, left: Range, right: Range) -> bool
     requires left { IsWords left }
     requires right { IsWords right }
     requires signed { is_signed scalar ≡ true → op ≡ Op.Mul → (IsSignedWords left) × (IsSignedWords right) }
-    ensures { result ≡ range_traps op scalar left right }
+    ensures { result ≡ range_traps mode op scalar left right }
 {
     match op {
         Op::Add => {
-            if signed(scalar) {
+            if traps_where_outside(mode, scalar) {
                 is_outside(numbers_of(scalar), sum(left, right))
             } else {
                 false
             }
         }
         Op::Sub => {
-            if signed(scalar) {
+            if traps_where_outside(mode, scalar) {
                 is_outside(numbers_of(scalar), difference(left, right))
             } else {
                 false
             }
         }
         Op::Mul => {
-            if signed(scalar) {
+            if traps_where_outside(mode, scalar) {
                 is_outside(numbers_of(scalar), product(left, right))
             } else {
                 false
@@ -507,19 +509,19 @@ fn is_within(value: i128, range: Range) -> bool
 
 /// Whether an operator may trap on values that the sides hold. Takes no memory.
 #[tactic(auto, unfolding(crate::specs::AbsOperators::may_trap_of))]
-pub fn may_trap(op: Op, scalar: Scalar, left: &AbsVal, right: &AbsVal) -> bool
+pub fn may_trap(mode: Mode, op: Op, scalar: Scalar, left: &AbsVal, right: &AbsVal) -> bool
     requires allowed { (other : Scalar) × IsAllowed op scalar other × IsOf other right.now }
     requires left_of { IsOf scalar left.now }
     requires alike { AreAlike FitsAbsVal left.now right.now }
-    ensures { result ≡ may_trap_of op scalar left.now right.now }
+    ensures { result ≡ may_trap_of mode op scalar left.now right.now }
 {
     if pointer(scalar) {
         return false;
     }
-    if !sets_trap(op, scalar, &left.vals, &right.vals) {
+    if !sets_trap(mode, op, scalar, &left.vals, &right.vals) {
         return false;
     }
-    range_leaves(op, scalar, left.range, right.range)
+    range_leaves(mode, op, scalar, left.range, right.range)
 }
 
 fn cut_bits(scalar: Scalar, known: Bits) -> Bits

@@ -1,15 +1,16 @@
 //! The intervals of results, before they are rounded.
 
-ghost use Rattle.std.specs.Prelude.{◌≡◌, ◌≤◌, ◌<◌, ◌≤ℤ◌, ◌<ℤ◌, ◌*ℤ◌, ℕ, ℤ, pos, Bool, false, Option, Some, None};
+ghost use Rattle.std.specs.Prelude.{◌≡◌, ◌≤◌, ◌<◌, ◌≤ℤ◌, ◌<ℤ◌, ◌*ℤ◌, ℕ, ℤ, pos, Bool, true, false, Option, Some, None};
 ghost use Rattle.std.specs.Int.RustNames.{int_div};
+ghost use Rattle.gimple_ir.specs.declared.scalar.Mode.{Mode};
 ghost use Rattle.gimple_core.specs.Operators.{is_signed, IsWord};
 ghost use Rattle.value_domain.specs.Ranges.{corners, corners_each, hull_each, below_zero, above_zero, sum_range, difference_range, product_range, quotient_range, whole_unless, hull_four};
-ghost use Rattle.value_domain.specs.RangeOperators.{IsWords, IsSignedWords, IsInside, type_range, meet_each, fitted, reach_of, low_remainder, high_remainder, remainder_range, and_range, ones_reaching, or_range, shr_range, op_range, surely, opposite, cmp_range, convert_range, highest};
+ghost use Rattle.value_domain.specs.RangeOperators.{IsWords, IsSignedWords, IsInside, type_range, meet_each, traps_outside, fitted, reach_of, low_remainder, high_remainder, remainder_range, and_range, ones_reaching, or_range, shr_range, op_range, surely, opposite, cmp_range, convert_range, highest};
 
 use crate::bit_operators::ones;
 use crate::numbers::{minus, numbers_of, over, plus, size, times, times_up};
 use crate::range::Range;
-use gimple_core::{Cmp, Op, Scalar, signed};
+use gimple_core::{Cmp, Mode, Op, Scalar, signed};
 
 fn or_whole(exact: Range, whole: Range) -> Range
     ensures { result ≡ whole_unless whole exact }
@@ -21,12 +22,23 @@ fn or_whole(exact: Range, whole: Range) -> Range
     }
 }
 
-/// An exact interval brought into a scalar.
-fn fit(scalar: Scalar, exact: Range) -> Option<Range>
-    ensures { result ≡ fitted scalar (Some exact) }
+/// Whether a sum, difference or product outside a scalar traps; else it wraps.
+pub(crate) fn traps_where_outside(mode: Mode, scalar: Scalar) -> bool
+    ensures value { result ≡ traps_outside mode scalar }
+    ensures signed { result ≡ true → is_signed scalar ≡ true }
+{
+    match mode {
+        Mode::Trap => signed(scalar),
+        Mode::Wrap => false,
+    }
+}
+
+/// An exact interval of a sum, difference or product brought into a scalar.
+fn fit(mode: Mode, scalar: Scalar, exact: Range) -> Option<Range>
+    ensures { result ≡ fitted mode scalar (Some exact) }
 {
     let whole = numbers_of(scalar);
-    if signed(scalar) {
+    if traps_where_outside(mode, scalar) {
         whole.meet(exact)
     } else {
         Some(or_whole(exact, whole))
@@ -259,7 +271,7 @@ fn unsigned_product(scalar: Scalar, left: Range, right: Range) -> Range
     requires unsigned { is_signed scalar ≡ false }
     requires left { IsInside scalar left }
     requires right { IsInside scalar right }
-    ensures { Some result ≡ fitted scalar (product_range left right) }
+    ensures { (mode : Mode) → Some result ≡ fitted mode scalar (product_range left right) }
 {
     let exact = Range {
         low: times_up(left.low, right.low),
@@ -269,18 +281,24 @@ fn unsigned_product(scalar: Scalar, left: Range, right: Range) -> Range
 }
 
 /// The interval of an operator's result.
-pub(crate) fn range_of_op(op: Op, scalar: Scalar, left: Range, right: Range) -> Option<Range>
+pub(crate) fn range_of_op(
+    mode: Mode,
+    op: Op,
+    scalar: Scalar,
+    left: Range,
+    right: Range,
+) -> Option<Range>
     requires left { IsInside scalar left }
     requires right { IsWords right }
     requires same { (op ≡ Op.Mul) → IsInside scalar right }
-    ensures { result ≡ op_range op scalar left right }
+    ensures { result ≡ op_range mode op scalar left right }
 {
     match op {
-        Op::Add => fit(scalar, sum(left, right)),
-        Op::Sub => fit(scalar, difference(left, right)),
+        Op::Add => fit(mode, scalar, sum(left, right)),
+        Op::Sub => fit(mode, scalar, difference(left, right)),
         Op::Mul => {
             if signed(scalar) {
-                fit(scalar, product(left, right))
+                fit(mode, scalar, product(left, right))
             } else {
                 Some(unsigned_product(scalar, left, right))
             }

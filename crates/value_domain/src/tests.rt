@@ -12,21 +12,25 @@ use crate::operators::range_leaves;
 use crate::range::Range;
 use crate::range_operators::{range_converted, range_of_cmp, range_of_op};
 use crate::vals::Vals;
-use gimple_core::{Cmp, Constant, Listed, Op, OutOfMemory, Scalar, low, signed};
+use gimple_core::{Cmp, Constant, Listed, Mode, Op, OutOfMemory, Scalar, low, signed};
 use std::alloc::Global;
 use std::test::Fail;
 
-const OPS: [Op; 10] = [
-    Op::Add,
-    Op::Sub,
-    Op::Mul,
-    Op::Div,
-    Op::Rem,
-    Op::And,
-    Op::Or,
-    Op::Xor,
-    Op::Shl,
-    Op::Shr,
+/// Each operator in the mode `Trap`, and those that the mode `Wrap` changes.
+const OPS: [(Mode, Op); 13] = [
+    (Mode::Trap, Op::Add),
+    (Mode::Trap, Op::Sub),
+    (Mode::Trap, Op::Mul),
+    (Mode::Trap, Op::Div),
+    (Mode::Trap, Op::Rem),
+    (Mode::Trap, Op::And),
+    (Mode::Trap, Op::Or),
+    (Mode::Trap, Op::Xor),
+    (Mode::Trap, Op::Shl),
+    (Mode::Trap, Op::Shr),
+    (Mode::Wrap, Op::Add),
+    (Mode::Wrap, Op::Sub),
+    (Mode::Wrap, Op::Mul),
 ];
 
 const CMPS: [Cmp; 6] = [Cmp::Eq, Cmp::Ne, Cmp::Lt, Cmp::Le, Cmp::Gt, Cmp::Ge];
@@ -66,8 +70,11 @@ fn intervals(
 }
 
 /// The result of an operator on two numbers of `i8`, or None where it traps.
-fn on_i8(op: Op, left: i8, right: i8) -> Option<i8> {
+fn on_i8(mode: Mode, op: Op, left: i8, right: i8) -> Option<i8> {
     match op {
+        Op::Add if mode == Mode::Wrap => Some(left.wrapping_add(right)),
+        Op::Sub if mode == Mode::Wrap => Some(left.wrapping_sub(right)),
+        Op::Mul if mode == Mode::Wrap => Some(left.wrapping_mul(right)),
         Op::Add => left.checked_add(right),
         Op::Sub => left.checked_sub(right),
         Op::Mul => left.checked_mul(right),
@@ -98,9 +105,14 @@ fn on_u8(op: Op, left: u8, right: u8) -> Option<u8> {
 }
 
 /// The result on two numbers of `i8` or `u8`, or None where it traps.
-fn result(op: Op, scalar: Scalar, left: i32, right: i32) -> Option<i32> {
+fn result(mode: Mode, op: Op, scalar: Scalar, left: i32, right: i32) -> Option<i32> {
     if signed(scalar) {
-        let found = on_i8(op, i8::try_from(left).ok()?, i8::try_from(right).ok()?)?;
+        let found = on_i8(
+            mode,
+            op,
+            i8::try_from(left).ok()?,
+            i8::try_from(right).ok()?,
+        )?;
         Some(i32::from(found))
     } else {
         let found = on_u8(op, u8::try_from(left).ok()?, u8::try_from(right).ok()?)?;
@@ -132,12 +144,12 @@ struct Results {
     traps: bool,
 }
 
-fn results_of(op: Op, scalar: Scalar, left: (i32, i32), right: (i32, i32)) -> Results {
+fn results_of(mode: Mode, op: Op, scalar: Scalar, left: (i32, i32), right: (i32, i32)) -> Results {
     let mut ends: Option<(i32, i32)> = None;
     let mut traps = false;
     for x in left.0..left.1.saturating_add(1) {
         for y in right.0..right.1.saturating_add(1) {
-            match result(op, scalar, x, y) {
+            match result(mode, op, scalar, x, y) {
                 Some(z) => {
                     let (least, greatest) = ends.unwrap_or((z, z));
                     ends = Some((least.min(z), greatest.max(z)));
@@ -158,9 +170,9 @@ fn whole(scalar: Scalar) -> (i32, i32) {
 }
 
 /// The exact interval brought into the scalar.
-fn fit(scalar: Scalar, (low, high): (i32, i32)) -> Option<(i32, i32)> {
+fn fit(mode: Mode, scalar: Scalar, (low, high): (i32, i32)) -> Option<(i32, i32)> {
     let (least, greatest) = whole(scalar);
-    if signed(scalar) {
+    if signed(scalar) && mode == Mode::Trap {
         let (low, high) = (low.max(least), high.min(greatest));
         if low <= high { Some((low, high)) } else { None }
     } else if least <= low && high <= greatest {
@@ -233,13 +245,19 @@ fn ones_reaching(value: i32) -> i32 {
 }
 
 /// The table of intervals.
-fn table(op: Op, scalar: Scalar, left: (i32, i32), right: (i32, i32)) -> Option<(i32, i32)> {
+fn table(
+    mode: Mode,
+    op: Op,
+    scalar: Scalar,
+    left: (i32, i32),
+    right: (i32, i32),
+) -> Option<(i32, i32)> {
     let (a, b) = left;
     let (c, d) = right;
     match op {
-        Op::Add => fit(scalar, (a.saturating_add(c), b.saturating_add(d))),
-        Op::Sub => fit(scalar, (a.saturating_sub(d), b.saturating_sub(c))),
-        Op::Mul => fit(scalar, products(left, right)),
+        Op::Add => fit(mode, scalar, (a.saturating_add(c), b.saturating_add(d))),
+        Op::Sub => fit(mode, scalar, (a.saturating_sub(d), b.saturating_sub(c))),
+        Op::Mul => fit(mode, scalar, products(left, right)),
         Op::Div => quotients(scalar, left, right),
         Op::Rem => remainders(left, right),
         Op::And if a >= 0 && c >= 0 => Some((0, b.min(d))),
@@ -261,32 +279,38 @@ fn as_range(ends: Option<(i32, i32)>) -> Option<Range> {
 
 /// Whether the interval of an operator holds all results on two intervals and is that of the table, and whether a trap is
 /// left open exactly where a pair traps.
-fn interval_is_right(op: Op, scalar: Scalar, left: (i32, i32), right: (i32, i32)) -> bool {
+fn interval_is_right(
+    mode: Mode,
+    op: Op,
+    scalar: Scalar,
+    left: (i32, i32),
+    right: (i32, i32),
+) -> bool {
     let (Some(first), Some(second)) = (interval(scalar, left), interval(scalar, right)) else {
         return false;
     };
-    let seen = results_of(op, scalar, left, right);
-    let found = range_of_op(op, scalar, first, second);
+    let seen = results_of(mode, op, scalar, left, right);
+    let found = range_of_op(mode, op, scalar, first, second);
     let holds = match (as_range(seen.ends), found) {
         (Some(results), Some(found)) => results.leq(found),
         (Some(_), None) => false,
         (None, _) => true,
     };
     holds
-        && found == as_range(table(op, scalar, left, right))
-        && range_leaves(op, scalar, first, second) == seen.traps
+        && found == as_range(table(mode, op, scalar, left, right))
+        && range_leaves(mode, op, scalar, first, second) == seen.traps
 }
 
 #[test]
 fn intervals_at_eight_bits(rt: HostRuntime) -> Result<(), Fail> {
     for (scalar, runs, wide) in RUNS {
         let all = intervals(rt.alloc(), runs, wide)?;
-        for op in OPS {
+        for (mode, op) in OPS {
             for left in &all {
                 for right in &all {
                     assert!(rt;
-                        interval_is_right(op, scalar, *left, *right),
-                        "{op:?} {scalar:?} {left:?} {right:?}"
+                        interval_is_right(mode, op, scalar, *left, *right),
+                        "{mode:?} {op:?} {scalar:?} {left:?} {right:?}"
                     );
                 }
             }
@@ -424,7 +448,7 @@ struct Agreement {
     alike: u64,
 }
 
-fn agreement_of(op: Op, scalar: Scalar, left: Bits, right: Bits) -> Agreement {
+fn agreement_of(mode: Mode, op: Op, scalar: Scalar, left: Bits, right: Bits) -> Agreement {
     let mut found = Agreement {
         first: None,
         alike: 0xff,
@@ -437,7 +461,7 @@ fn agreement_of(op: Op, scalar: Scalar, left: Bits, right: Bits) -> Agreement {
             if y & right.mask != right.value {
                 continue;
             }
-            if let Some(z) = result(op, scalar, number_of(scalar, x), number_of(scalar, y)) {
+            if let Some(z) = result(mode, op, scalar, number_of(scalar, x), number_of(scalar, y)) {
                 let bits = low(scalar, i128::from(z));
                 let first = found.first.unwrap_or(bits);
                 found = Agreement {
@@ -471,9 +495,9 @@ fn known_bits(op: Op, left: Bits, right: Bits, alike: u64) -> u64 {
 }
 
 /// Whether the known bits of an operator are those of all results, and those of the table.
-fn bits_are_right(op: Op, scalar: Scalar, left: Bits, right: Bits) -> bool {
-    let found = bits_of_op(op, scalar, scalar, left, right);
-    let common = agreement_of(op, scalar, left, right);
+fn bits_are_right(mode: Mode, op: Op, scalar: Scalar, left: Bits, right: Bits) -> bool {
+    let found = bits_of_op(mode, op, scalar, scalar, left, right);
+    let common = agreement_of(mode, op, scalar, left, right);
     let Some(first) = common.first else {
         return found.mask <= 0xff && found.value & found.mask == found.value;
     };
@@ -490,12 +514,12 @@ fn bits_are_right(op: Op, scalar: Scalar, left: Bits, right: Bits) -> bool {
 fn known_bits_at_eight_bits(rt: HostRuntime) -> Result<(), Fail> {
     let patterns = patterns(rt.alloc())?;
     for scalar in [Scalar::I8, Scalar::U8] {
-        for op in OPS {
+        for (mode, op) in OPS {
             for left in &patterns {
                 for right in &patterns {
                     assert!(rt;
-                        bits_are_right(op, scalar, *left, *right),
-                        "{op:?} {scalar:?} {left:?} {right:?}"
+                        bits_are_right(mode, op, scalar, *left, *right),
+                        "{mode:?} {op:?} {scalar:?} {left:?} {right:?}"
                     );
                 }
             }
@@ -548,7 +572,14 @@ fn ascends(members: &[Constant]) -> bool {
 }
 
 /// Whether each result on members of two sets is among some constants, and each of these is such a result.
-fn are_results(op: Op, scalar: Scalar, left: &Vals, right: &Vals, found: &[Constant]) -> bool {
+fn are_results(
+    mode: Mode,
+    op: Op,
+    scalar: Scalar,
+    left: &Vals,
+    right: &Vals,
+    found: &[Constant],
+) -> bool {
     let mut reached = 0u64;
     for x in constants(left) {
         for y in constants(right) {
@@ -558,7 +589,7 @@ fn are_results(op: Op, scalar: Scalar, left: &Vals, right: &Vals, found: &[Const
             let (Ok(x), Ok(y)) = (i32::try_from(*x), i32::try_from(*y)) else {
                 return false;
             };
-            let Some(z) = result(op, scalar, x, y) else {
+            let Some(z) = result(mode, op, scalar, x, y) else {
                 continue;
             };
             let mut missing = true;
@@ -581,12 +612,13 @@ fn are_results(op: Op, scalar: Scalar, left: &Vals, right: &Vals, found: &[Const
 /// Whether the set of results is that of all pairs, and any where the limit is less.
 fn set_is_right(
     alloc: Global,
+    mode: Mode,
     op: Op,
     scalar: Scalar,
     left: &Vals,
     right: &Vals,
 ) -> Result<bool, OutOfMemory> {
-    let rule = Rule::Arithmetic(op, scalar);
+    let rule = Rule::Arithmetic(mode, op, scalar);
     let all = pairs(alloc, 64, rule, left, right)?;
     let found = constants(&all);
     let cut = pairs(alloc, 3, rule, left, right)?;
@@ -598,7 +630,7 @@ fn set_is_right(
     let empty_is_right = !found.is_empty() || matches!(&all, Vals::Nothing);
     Ok(
         ascends(found)
-            && are_results(op, scalar, left, right, found)
+            && are_results(mode, op, scalar, left, right, found)
             && cut_is_right
             && empty_is_right,
     )
@@ -614,10 +646,10 @@ fn sets_at_eight_bits(rt: HostRuntime) -> Result<(), Fail> {
             let left = chosen(rt.alloc(), numbers, first)?;
             for second in 1u32..32 {
                 let right = chosen(rt.alloc(), numbers, second)?;
-                for op in OPS {
+                for (mode, op) in OPS {
                     assert!(rt;
-                        set_is_right(rt.alloc(), op, scalar, &left, &right)?,
-                        "{op:?} {scalar:?} {first} {second}"
+                        set_is_right(rt.alloc(), mode, op, scalar, &left, &right)?,
+                        "{mode:?} {op:?} {scalar:?} {first} {second}"
                     );
                 }
             }

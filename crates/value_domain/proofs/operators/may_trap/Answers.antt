@@ -1,6 +1,6 @@
 use Rattle.std.proofs.Common.{sym, subst, ◌∙◌, ◌≡◌, true, false}
 use Rattle.gimple_core.specs.Operators.{is_signed}
-use Rattle.value_domain.specs.ConstantOperators.{is_pointer}
+use Rattle.gimple_core.specs.Statements.{is_pointer}
 use Rattle.value_domain.proofs.CodeLemmas.{words_of, signed_words_of, right_int, mul_right}
 use Rattle.value_domain.proofs.operators.may_trap.Goals as goal
 

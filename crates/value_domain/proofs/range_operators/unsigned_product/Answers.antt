@@ -16,4 +16,4 @@ returns c =
     let whole = simp to_z-of_z at c.or_whole.ensures in
     let low = simp to_z-of_z at c.times_up.ensures in
     let high = simp to_z-of_z at c.times_up-2.ensures in
-    ap Some (whole ∙ (λ i. whole_unless (c.numbers_of.ensures.value i) (record { low = low i; high = high i }))) ∙ unsigned_product_is c.args.scalar c.args.left c.args.right c.requires.unsigned c.requires.left c.requires.right
+    λ mode. ap Some (whole ∙ (λ i. whole_unless (c.numbers_of.ensures.value i) (record { low = low i; high = high i }))) ∙ unsigned_product_is mode c.args.scalar c.args.left c.args.right c.requires.unsigned c.requires.left c.requires.right
