@@ -1,7 +1,7 @@
 //! The shelf of files and standard streams. It counts what fails and what was taken, and tells nothing of what they hold.
 
-ghost use Rattle.std.specs.Prelude.{◌≡◌, ◌≤◌, ◌<◌, ◌^◌, [], None};
-ghost use Rattle.file_shelf.specs.Files.{ReadsWhole};
+ghost use Rattle.std.specs.Prelude.{◌≡◌, ◌≤◌, ◌<◌, ◌^◌, [], None, length, drop};
+ghost use Rattle.file_shelf.specs.Files.{ReadsWhole, GivesAll, TakesAll};
 
 use shelf::{Fetched, Shelf, Stored, Text};
 use std::io::{self, Read, Write};
@@ -29,11 +29,13 @@ struct Taken {
     count: u64,
 }
 
-/// Reads to the end, or past the limit. A read that gives nothing is the end.
+/// Reads to the end, or past the limit. A read that gives nothing is the end. Where it is done, `into` has all that was
+/// left in the reader, which stands at its end.
 fn read_whole<R: Read>(reader: &mut R, limit: u64, into: &mut Text) -> Taken
     requires limit { limit ≤ 2 ^ 32 }
     requires empty { into.old ≡ [] }
-    ensures { ReadsWhole limit result into.new }
+    ensures counted { ReadsWhole limit result into.new }
+    ensures whole { GivesAll (R.remaining reader.old) (R.remaining reader.new) result.end into.new }
 {
     let mut buf = [0u8; 4096];
     let mut count = 0u64;
@@ -71,13 +73,24 @@ fn read_whole<R: Read>(reader: &mut R, limit: u64, into: &mut Text) -> Taken
     }
 }
 
-/// Writes all bytes, and says whether all were taken. A write that takes nothing of some bytes fails.
-fn write_whole<W: Write>(writer: &mut W, bytes: &[u8]) -> bool {
+/// The bytes behind the first `count` ones.
+fn behind(bytes: &[u8], count: usize) -> &[u8]
+    requires { count ≤ length bytes.now }
+    ensures { result.now ≡ drop count bytes.now }
+{
+    &bytes[count..]
+}
+
+/// Writes all bytes, and says whether all were taken: then the writer holds them behind what it held. A write that takes
+/// nothing of some bytes fails.
+fn write_whole<W: Write>(writer: &mut W, bytes: &[u8]) -> bool
+    ensures { TakesAll (W.contents writer.old) (W.contents writer.new) bytes.now result }
+{
     let mut rest = bytes;
     while !rest.is_empty() {
         match writer.write(rest) {
             Ok(0) => return false,
-            Ok(n) => rest = &rest[n..],
+            Ok(n) => rest = behind(rest, n),
             Err(_) => return false,
         }
     }
