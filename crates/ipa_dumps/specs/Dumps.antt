@@ -1,5 +1,5 @@
 -- The texts of dumps. Each line ends with a line feed. A number of no function has the name of no bytes.
-use Rattle.std.specs.Prelude.{ℕ, ◌+◌, List, [], ◌∷◌, ◌++◌, codes, Option, None, Some, slice_get}
+use Rattle.std.specs.Prelude.{ℕ, ◌+◌, List, [], ◌∷◌, ◌++◌, length, take, drop, position, unwrap_or, not, codes, Option, None, Some, slice_get}
 use Rattle.std.specs.List.{flat_map}
 use Rattle.std.specs.Fmt.{decimal}
 use Rattle.gimple_ir.specs.declared.block.Block.{Block}
@@ -7,6 +7,7 @@ use Rattle.gimple_ir.specs.declared.point.Edge.{Edge}
 use Rattle.gimple_ir.specs.declared.point.Point.{Point}
 use Rattle.gimple_ir.specs.declared.program.Function.{Function}
 use Rattle.gimple_ir.specs.declared.program.Program.{Program}
+use Rattle.ipa_dumps.specs.IndirectCalls.{is_before, indirect_calls}
 
 -- the line that a dump begins with, and the whole dump of a pass that is off
 unfoldable pub header_text : List ℕ → List ℕ
@@ -36,7 +37,7 @@ place_text p point =
 
 -- ---- the call graph
 
--- the components in their order, each as its members, and the calls in file order
+-- the components in their order, each as its members, and the direct calls in file order
 pub record Graph : Type 0 where
   pub components : List (List ℕ)
   pub edges : List Edge
@@ -55,5 +56,19 @@ components_text p k (c ∷ cs) = component_text p k c ++ components_text p (k + 
 unfoldable pub call_text : Program → Edge → List ℕ
 call_text p e = codes "call " ++ (place_text p e.point ++ (codes " -> " ++ (name_at p e.callee ++ codes "\n")))
 
+unfoldable pub indirect_text : Program → Point → List ℕ
+indirect_text p at = codes "indirect " ++ (place_text p at ++ codes "\n")
+
+-- how many of the edges come before a place
+abbrev pub edges_before : Point → List Edge → ℕ
+edges_before at edges = unwrap_or (position (λ e. not (is_before e.point at)) edges) (length edges)
+
+-- the places of indirect calls and the direct calls, each in file order, put together in file order
+unfoldable pub calls_text : Program → List Point → List Edge → List ℕ
+calls_text p [] edges = flat_map (call_text p) edges
+calls_text p (at ∷ places) edges =
+    let n = edges_before at edges in
+    flat_map (call_text p) (take n edges) ++ (indirect_text p at ++ calls_text p places (drop n edges))
+
 unfoldable pub cgraph_text : Program → Graph → List ℕ
-cgraph_text p graph = header_text (codes "cgraph") ++ (components_text p 0 graph.components ++ flat_map (call_text p) graph.edges)
+cgraph_text p graph = header_text (codes "cgraph") ++ (components_text p 0 graph.components ++ calls_text p (indirect_calls p) graph.edges)

@@ -1,2 +1,3 @@
+pub mod IndirectCalls
 pub mod Dumps
 pub mod Sample

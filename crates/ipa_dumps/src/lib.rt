@@ -3,6 +3,7 @@
 #![tactic(auto)]
 
 mod cgraph;
+mod indirect;
 mod place;
 #[cfg(test)]
 mod tests;

@@ -1,7 +1,7 @@
-use Rattle.std.proofs.Common.{◌≡◌, ◌++◌, take}
-use Rattle.std.specs.List.{flat_map}
-use Rattle.ipa_dumps.specs.Dumps.{call_text}
+use Rattle.std.proofs.Common.{◌≡◌, ◌++◌, drop}
+use Rattle.ipa_dumps.specs.Dumps.{calls_text}
 use Rattle.ipa_dumps.proofs.cgraph.push_calls.Given as goal
 
-abbrev pub invariant-loop-edge : goal.invariant-loop-edge
-invariant-loop-edge l = l.text ≡ l.fn.text ++ flat_map (call_text l.program) (take l.edge-index l.edges)
+abbrev pub invariant-loop-place : goal.invariant-loop-place
+invariant-loop-place l =
+    l.text ++ calls_text l.program (drop l.place-index l.places) l.rest ≡ l.fn.text ++ calls_text l.program l.places l.edges
