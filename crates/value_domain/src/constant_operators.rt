@@ -135,7 +135,9 @@ fn moved(left: Constant, right: Constant) -> Option<Constant>
     }
 }
 
-fn on_constants(
+/// What an operator makes of two constants, in a mode of arithmetic; None exactly where it traps or a side is none of its
+/// scalar. Takes no memory.
+pub fn constant_op(
     mode: Mode,
     op: Op,
     scalar: Scalar,
@@ -169,7 +171,8 @@ fn same_address(left: Constant, right: Constant) -> bool
     }
 }
 
-fn compares(cmp: Cmp, left: Constant, right: Constant) -> bool
+/// Whether a comparison of two constants holds. Takes no memory.
+pub fn constant_cmp(cmp: Cmp, left: Constant, right: Constant) -> bool
     ensures { result ≡ compared_constants cmp left right }
 {
     match (left, right) {
@@ -182,7 +185,8 @@ fn compares(cmp: Cmp, left: Constant, right: Constant) -> bool
     }
 }
 
-fn converted(target: Scalar, constant: Constant) -> Option<Constant>
+/// What a conversion makes of a constant; None exactly where it is no number. Takes no memory.
+pub fn constant_convert(target: Scalar, constant: Constant) -> Option<Constant>
     ensures { result ≡ convert_constant target constant }
 {
     match constant {
@@ -196,12 +200,12 @@ fn result_of(rule: Rule, left: Constant, right: Constant) -> Option<Constant>
     ensures { result ≡ rule_constant rule left right }
 {
     match rule {
-        Rule::Arithmetic(mode, op, scalar) => on_constants(mode, op, scalar, left, right),
+        Rule::Arithmetic(mode, op, scalar) => constant_op(mode, op, scalar, left, right),
         Rule::Comparison(cmp) => {
-            let holds = compares(cmp, left, right);
+            let holds = constant_cmp(cmp, left, right);
             Some(Constant::Int(if holds { 1 } else { 0 }))
         }
-        Rule::Conversion(target) => converted(target, right),
+        Rule::Conversion(target) => constant_convert(target, right),
     }
 }
 

@@ -20,6 +20,7 @@ mod vals;
 pub use abs_val::AbsVal;
 pub use bits::Bits;
 pub use constant::{ConstantOrder, NumberOrder};
+pub use constant_operators::{constant_cmp, constant_convert, constant_op};
 pub use gimple_core::Constant;
 pub use laws::{
     alone_values, brought_values, closed_traps, higher_values_hold, kinds_give_back,
