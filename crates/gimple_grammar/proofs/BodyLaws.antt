@@ -1,5 +1,6 @@
 -- The readers of statements.
-use Rattle.std.proofs.Common.{◌≡◌, ℕ, Bool, true, false, not, List, [], ◌∷◌, ◌++◌, Option, Some, None, refl, sym, ap, ◌∙◌, append_assoc, inl, inr}
+use Rattle.std.proofs.Common.{◌≡◌, ℕ, ◌==◌, Bool, true, false, not, List, [], ◌∷◌, ◌++◌, Option, Some, None, refl, sym, ap, ◌∙◌, append_assoc, inl, inr}
+use Rattle.std.proofs.lemmas.Bool.{eqb-true}
 use Rattle.std.proofs.lemmas.List.{append-nil}
 use denote.Enum.Bare.{sameb}
 use Rattle.gimple_tokens.specs.contracts.token.Symbol.{the_type}
@@ -11,18 +12,19 @@ use Rattle.gimple_ir.specs.declared.scalar.Cmp.{Cmp}
 use Rattle.gimple_ir.specs.declared.scalar.Cmp.TheVariants as cmp
 use Rattle.gimple_ir.specs.declared.scalar.Scalar.{Scalar}
 use Rattle.gimple_ir.specs.declared.statement.Stmt.{Stmt}
-use Rattle.gimple_ir.specs.declared.statement.Stmt.TheVariants.{Copy, Arith, Compare, Convert, Load, Store, Call, Get, Put, Abort}
+use Rattle.gimple_ir.specs.declared.statement.Stmt.TheVariants.{Copy, Arith, Compare, Convert, Load, Store, Call, Indirect, Get, Put, Abort}
 use Rattle.gimple_tokens.specs.declared.token.Symbol.{Symbol}
 use Rattle.gimple_tokens.specs.declared.token.Symbol.TheVariants as s
 use Rattle.gimple_tokens.specs.declared.token.Token.TheVariants as tok
-use Rattle.token_law.specs.Reading.{Tokens, ◌>>=◌, pure, choose, many, lookup, sees, sees_name, sees_one, not_before, name}
-use Rattle.token_law.proofs.ReadsExactly.{ReadsExactly, IsHeadTest, IsThen, IsEither, IsPure, Avoids, never, pure_exact, then_exact, choose_exact, recast, widen, front_avoids}
+use Rattle.token_law.specs.Reading.{Tokens, Parser, ◌>>=◌, pure, choose, many, lookup, sees, sees_name, sees_one, not_before, name}
+use Rattle.token_law.proofs.ReadsExactly.{ReadsExactly, IsHeadTest, IsThen, IsEither, IsAllowed, IsPure, Avoids, never, pure_exact, then_exact, choose_exact, allowed_exact, recast, widen, front_avoids}
 use Rattle.token_law.proofs.Many.{IsMore, many_exact}
 use Rattle.token_law.proofs.Leaves.{sees_head, sees_name_head, sees_one_head, sees_self, sees_one_self, before_sees, before_other, seen_other, seen_one, fixed_exact, name_exact}
 use Rattle.token_law.proofs.Lists.{after, then_symbol, ends_with}
 use Rattle.gimple_grammar.specs.Grammar.{scalar_symbol, op_symbol, cmp_symbol, IsItem, IsOperand, IsArguments, IsPlace, mem_tokens, IsSimple, IsStmt}
-use Rattle.gimple_grammar.specs.Readers.{ops, cmps, operator, comparison, sees_operator, sees_comparison, item, operand, arguments, place, tail, after_name, convert, load, get, right_side, named, put, stop, store, simple, statement, begins_statement}
+use Rattle.gimple_grammar.specs.Readers.{ops, cmps, operator, comparison, sees_operator, sees_comparison, item, operand, arguments, place, indirect, begins_indirect, tail, after_name, convert, load, get, right_side, named, put, stop, store, simple, statement, begins_statement}
 use Rattle.gimple_grammar.proofs.ValueLaws.{op_found, cmp_found, op_differs, cmp_differs, scalar_exact, operator_exact, comparison_exact, item_exact, item_no_name, item_avoids, item_operand, operand_exact, arguments_exact, place_exact, mem_exact}
+use Rattle.gimple_grammar.proofs.SignatureLaws.{IsIndirect, indirect_exact}
 
 pub semi_at : (rest : Tokens) → not_before s.Semi rest ≡ false → sees s.At rest ≡ false
 semi_at rest e = before_other s.Semi s.At rest refl e
@@ -150,61 +152,89 @@ from_item_exact x = then_exact item _ _ _ (sees s.At) (not_before s.Semi) item_e
 item_first : (test : Tokens → Bool) → Avoids test IsItem → (x : List ℕ) (b : Stmt) (pre rest : Tokens) → IsFromItem x b pre → test (pre ++ rest) ≡ false
 item_first test avoids x b pre rest h = front_avoids test IsItem avoids h.0 h.1 h.2 pre rest h.3 h.5
 
-abbrev Right4 : List ℕ → Stmt → Tokens → Type 0
-Right4 x = IsEither (IsGet x) (IsFromItem x)
+-- an indirect call where the profile has them
+abbrev IsAllowedCall : ℕ → Option (List ℕ) → Stmt → Tokens → Type 0
+IsAllowedCall profile to = IsAllowed (profile == 2) (IsIndirect to)
 
-abbrev Right3 : List ℕ → Stmt → Tokens → Type 0
-Right3 x = IsEither (IsLoad x) (Right4 x)
+abbrev Right5 : ℕ → List ℕ → Stmt → Tokens → Type 0
+Right5 profile x = IsEither (IsAllowedCall profile (Some x)) (IsFromItem x)
 
-abbrev Right2 : List ℕ → Stmt → Tokens → Type 0
-Right2 x = IsEither (IsConvert x) (Right3 x)
+abbrev Right4 : ℕ → List ℕ → Stmt → Tokens → Type 0
+Right4 profile x = IsEither (IsGet x) (Right5 profile x)
 
-abbrev IsRight : List ℕ → Stmt → Tokens → Type 0
-IsRight x = IsEither (IsFromName x) (Right2 x)
+abbrev Right3 : ℕ → List ℕ → Stmt → Tokens → Type 0
+Right3 profile x = IsEither (IsLoad x) (Right4 profile x)
 
-right4_exact : (x : List ℕ) → ReadsExactly (choose (sees s.Getint) (get x) (item >>= λ left. tail x left)) (Right4 x) (not_before s.Semi)
-right4_exact x = choose_exact (sees s.Getint) (sees_head s.Getint) _ _ (IsGet x) (IsFromItem x) (not_before s.Semi)
-    (widen (get_exact x) (λ rest e. refl))
+abbrev Right2 : ℕ → List ℕ → Stmt → Tokens → Type 0
+Right2 profile x = IsEither (IsConvert x) (Right3 profile x)
+
+abbrev IsRight : ℕ → List ℕ → Stmt → Tokens → Type 0
+IsRight profile x = IsEither (IsFromName x) (Right2 profile x)
+
+-- a star or an item comes first
+right5_first : (test : Tokens → Bool) → ((m : Tokens) → test (tok.Fixed s.Star ∷ m) ≡ false) → Avoids test IsItem → (profile : ℕ) (x : List ℕ) (b : Stmt) (pre rest : Tokens) → Right5 profile x b pre → test (pre ++ rest) ≡ false
+right5_first test star avoids profile x b pre rest h = elim h [ inl i ↦ rw i.1.8 (star _) | inr c ↦ item_first test avoids x b pre rest c ]
+
+abbrev read5 : ℕ → List ℕ → Parser Stmt
+read5 profile x = choose (begins_indirect profile) (indirect (Some x)) (item >>= λ left. tail x left)
+
+abbrev read4 : ℕ → List ℕ → Parser Stmt
+read4 profile x = choose (sees s.Getint) (get x) (read5 profile x)
+
+abbrev read3 : ℕ → List ℕ → Parser Stmt
+read3 profile x = choose (sees s.Mem) (load x) (read4 profile x)
+
+right5_exact : (profile : ℕ) (x : List ℕ) → ReadsExactly (read5 profile x) (Right5 profile x) (not_before s.Semi)
+right5_exact profile x = allowed_exact (sees s.Star) (sees_head s.Star) _ _ (IsIndirect (Some x)) (IsFromItem x) (not_before s.Semi) (profile == 2)
+    (widen (indirect_exact (Some x)) (λ rest e. refl))
     (from_item_exact x)
-    (λ b pre rest h stop. rw h.1 (sees_self s.Getint _))
-    (λ b pre rest h stop. item_first (sees s.Getint) (item_avoids s.Getint refl refl refl) x b pre rest h)
+    (λ b pre rest h stop. rw h.8 (sees_self s.Star _))
+    (λ b pre rest h stop. item_first (sees s.Star) (item_avoids s.Star refl refl refl) x b pre rest h)
 
-right3_exact : (x : List ℕ) → ReadsExactly (choose (sees s.Mem) (load x) (choose (sees s.Getint) (get x) (item >>= λ left. tail x left))) (Right3 x) (not_before s.Semi)
+right4_exact : (profile : ℕ) (x : List ℕ) → ReadsExactly (read4 profile x) (Right4 profile x) (not_before s.Semi)
 unfolding sees
-right3_exact x = choose_exact (sees s.Mem) (sees_head s.Mem) _ _ (IsLoad x) (Right4 x) (not_before s.Semi)
+right4_exact profile x = choose_exact (sees s.Getint) (sees_head s.Getint) _ _ (IsGet x) (Right5 profile x) (not_before s.Semi)
+    (widen (get_exact x) (λ rest e. refl))
+    (right5_exact profile x)
+    (λ b pre rest h stop. rw h.1 refl)
+    (λ b pre rest h stop. right5_first (sees s.Getint) (λ m. refl) (item_avoids s.Getint refl refl refl) profile x b pre rest h)
+
+right3_exact : (profile : ℕ) (x : List ℕ) → ReadsExactly (read3 profile x) (Right3 profile x) (not_before s.Semi)
+unfolding sees
+right3_exact profile x = choose_exact (sees s.Mem) (sees_head s.Mem) _ _ (IsLoad x) (Right4 profile x) (not_before s.Semi)
     (widen (load_exact x) (λ rest e. refl))
-    (right4_exact x)
+    (right4_exact profile x)
     (λ b pre rest h stop. rw h.5 refl)
-    (λ b pre rest h stop. elim h [ inl a ↦ rw a.1 refl | inr c ↦ item_first (sees s.Mem) (item_avoids s.Mem refl refl refl) x b pre rest c ])
+    (λ b pre rest h stop. elim h [ inl a ↦ rw a.1 refl | inr c ↦ right5_first (sees s.Mem) (λ m. refl) (item_avoids s.Mem refl refl refl) profile x b pre rest c ])
 
-right2_exact : (x : List ℕ) → ReadsExactly (choose (sees s.Open) (convert x) (choose (sees s.Mem) (load x) (choose (sees s.Getint) (get x) (item >>= λ left. tail x left)))) (Right2 x) (not_before s.Semi)
+right2_exact : (profile : ℕ) (x : List ℕ) → ReadsExactly (choose (sees s.Open) (convert x) (read3 profile x)) (Right2 profile x) (not_before s.Semi)
 unfolding sees
-right2_exact x = choose_exact (sees s.Open) (sees_head s.Open) _ _ (IsConvert x) (Right3 x) (not_before s.Semi)
+right2_exact profile x = choose_exact (sees s.Open) (sees_head s.Open) _ _ (IsConvert x) (Right3 profile x) (not_before s.Semi)
     (widen (convert_exact x) semi_at)
-    (right3_exact x)
+    (right3_exact profile x)
     (λ b pre rest h stop. rw h.5 refl)
-    (λ b pre rest h stop. elim h [ inl l ↦ rw l.5 refl | inr k ↦ elim k [ inl a ↦ rw a.1 refl | inr c ↦ item_first (sees s.Open) (item_avoids s.Open refl refl refl) x b pre rest c ] ])
+    (λ b pre rest h stop. elim h [ inl l ↦ rw l.5 refl | inr k ↦ elim k [ inl a ↦ rw a.1 refl | inr c ↦ right5_first (sees s.Open) (λ m. refl) (item_avoids s.Open refl refl refl) profile x b pre rest c ] ])
 
-right_exact : (x : List ℕ) → ReadsExactly (right_side x) (IsRight x) (not_before s.Semi)
+right_exact : (profile : ℕ) (x : List ℕ) → ReadsExactly (right_side profile x) (IsRight profile x) (not_before s.Semi)
 unfolding right_side sees_name
-right_exact x = choose_exact sees_name sees_name_head _ _ (IsFromName x) (Right2 x) (not_before s.Semi)
+right_exact profile x = choose_exact sees_name sees_name_head _ _ (IsFromName x) (Right2 profile x) (not_before s.Semi)
     (from_name_exact x)
-    (right2_exact x)
+    (right2_exact profile x)
     (λ b pre rest h stop. rw h.3 refl)
-    (λ b pre rest h stop. elim h [ inl v ↦ rw v.5 refl | inr w ↦ elim w [ inl l ↦ rw l.5 refl | inr k ↦ elim k [ inl a ↦ rw a.1 refl | inr c ↦ item_first sees_name item_no_name x b pre rest c ] ] ])
+    (λ b pre rest h stop. elim h [ inl v ↦ rw v.5 refl | inr w ↦ elim w [ inl l ↦ rw l.5 refl | inr k ↦ elim k [ inl a ↦ rw a.1 refl | inr c ↦ right5_first sees_name (λ m. refl) item_no_name profile x b pre rest c ] ] ])
 
 -- ---- statements
 
-abbrev IsAssigned : List ℕ → Stmt → Tokens → Type 0
-IsAssigned x b ts = (a : Tokens) × IsRight x b a × (ts ≡ tok.Fixed s.Assign ∷ a)
+abbrev IsAssigned : ℕ → List ℕ → Stmt → Tokens → Type 0
+IsAssigned profile x b ts = (a : Tokens) × IsRight profile x b a × (ts ≡ tok.Fixed s.Assign ∷ a)
 
-abbrev IsNamed : List ℕ → Stmt → Tokens → Type 0
-IsNamed x = IsEither (IsAssigned x) (IsCall None x)
+abbrev IsNamed : ℕ → List ℕ → Stmt → Tokens → Type 0
+IsNamed profile x = IsEither (IsAssigned profile x) (IsCall None x)
 
-named_exact : (x : List ℕ) → ReadsExactly (named x) (IsNamed x) (not_before s.Semi)
+named_exact : (profile : ℕ) (x : List ℕ) → ReadsExactly (named profile x) (IsNamed profile x) (not_before s.Semi)
 unfolding named sees
-named_exact x = choose_exact (sees s.Assign) (sees_head s.Assign) _ _ (IsAssigned x) (IsCall None x) (not_before s.Semi)
-    (recast (after (fixed_exact s.Assign) (λ _. right_exact x))
+named_exact profile x = choose_exact (sees s.Assign) (sees_head s.Assign) _ _ (IsAssigned profile x) (IsCall None x) (not_before s.Semi)
+    (recast (after (fixed_exact s.Assign) (λ _. right_exact profile x))
     (λ b ts h. (h.2, h.4, cc))
     (λ b ts h. (tt, tok.Fixed s.Assign ∷ [], h.0, refl, h.1, h.2)))
     (widen (call_exact None x) (λ rest e. refl))
@@ -268,14 +298,17 @@ store_exact = recast (after mem_exact (λ k. after place_exact (λ p. after (fix
       h.8,
     ))
 
-abbrev IsOther : Stmt → Tokens → Type 0
-IsOther b ts = (x : List ℕ) × (a : Tokens) × IsNamed x b a × (ts ≡ tok.Name x ∷ a)
+abbrev IsOther : ℕ → Stmt → Tokens → Type 0
+IsOther profile b ts = (x : List ℕ) × (a : Tokens) × IsNamed profile x b a × (ts ≡ tok.Name x ∷ a)
 
-abbrev Simples : Stmt → Tokens → Type 0
-Simples = IsEither IsPut (IsEither IsStop (IsEither IsStore IsOther))
+abbrev Simples4 : ℕ → Stmt → Tokens → Type 0
+Simples4 profile = IsEither (IsAllowedCall profile None) (IsOther profile)
 
-tail_to : (x : List ℕ) (left : Operand) (b : Stmt) (o c ts : Tokens) → IsOperand left o → IsTail x left b c → ts ≡ tok.Name x ∷ tok.Fixed s.Assign ∷ o ++ c → IsSimple b ts
-tail_to x left b o c ts io h e =
+abbrev Simples : ℕ → Stmt → Tokens → Type 0
+Simples profile = IsEither IsPut (IsEither IsStop (IsEither IsStore (Simples4 profile)))
+
+tail_to : (profile : ℕ) (x : List ℕ) (left : Operand) (b : Stmt) (o c ts : Tokens) → IsOperand left o → IsTail x left b c → ts ≡ tok.Name x ∷ tok.Fixed s.Assign ∷ o ++ c → IsSimple profile b ts
+tail_to profile x left b o c ts io h e =
     elim h [
       | inl p ↦ rw p.3 (o, p.2, io, p.4, e ∙ ap (λ y. tok.Name x ∷ tok.Fixed s.Assign ∷ o ++ y) p.5)
       | inr q ↦
@@ -285,17 +318,24 @@ tail_to x left b o c ts io h e =
           ]
     ]
 
-from_name_to : (x : List ℕ) (b : Stmt) (a ts : Tokens) → IsFromName x b a → ts ≡ tok.Name x ∷ tok.Fixed s.Assign ∷ a → IsSimple b ts
-from_name_to x b a ts p e =
+from_name_to : (profile : ℕ) (x : List ℕ) (b : Stmt) (a ts : Tokens) → IsFromName x b a → ts ≡ tok.Name x ∷ tok.Fixed s.Assign ∷ a → IsSimple profile b ts
+from_name_to profile x b a ts p e =
     elim p.2 [
       | inl q ↦ rw q.1 (p.1, q.2, e ∙ ap (λ y. tok.Name x ∷ tok.Fixed s.Assign ∷ y) p.3)
-      | inr q ↦ tail_to x (Reg p.0) b (tok.Name p.0 ∷ []) p.1 ts refl q (e ∙ ap (λ y. tok.Name x ∷ tok.Fixed s.Assign ∷ y) p.3)
+      | inr q ↦ tail_to profile x (Reg p.0) b (tok.Name p.0 ∷ []) p.1 ts refl q (e ∙ ap (λ y. tok.Name x ∷ tok.Fixed s.Assign ∷ y) p.3)
     ]
 
-right_to : (x : List ℕ) (b : Stmt) (a ts : Tokens) → IsRight x b a → ts ≡ tok.Name x ∷ tok.Fixed s.Assign ∷ a → IsSimple b ts
-right_to x b a ts h e =
+right5_to : (profile : ℕ) (x : List ℕ) (b : Stmt) (a ts : Tokens) → Right5 profile x b a → ts ≡ tok.Name x ∷ tok.Fixed s.Assign ∷ a → IsSimple profile b ts
+right5_to profile x b a ts h e =
     elim h [
-      | inl p ↦ from_name_to x b a ts p e
+      | inl i ↦ let v = i.1 in rw v.5 (v.3, v.4, v.6, v.7, e ∙ ap (λ y. tok.Name x ∷ tok.Fixed s.Assign ∷ y) v.8, eqb-true profile 2 i.0)
+      | inr p ↦ tail_to profile x p.0 b p.1 p.2 ts (item_operand p.0 p.1 p.3) p.4 (e ∙ ap (λ y. tok.Name x ∷ tok.Fixed s.Assign ∷ y) p.5)
+    ]
+
+right_to : (profile : ℕ) (x : List ℕ) (b : Stmt) (a ts : Tokens) → IsRight profile x b a → ts ≡ tok.Name x ∷ tok.Fixed s.Assign ∷ a → IsSimple profile b ts
+right_to profile x b a ts h e =
+    elim h [
+      | inl p ↦ from_name_to profile x b a ts p e
       | inr k ↦
           elim k [
             | inl v ↦ rw v.3 (v.2, v.4, e ∙ ap (λ y. tok.Name x ∷ tok.Fixed s.Assign ∷ y) v.5)
@@ -305,14 +345,25 @@ right_to x b a ts h e =
                   | inr k ↦
                       elim k [
                         | inl g ↦ rw g.0 (e ∙ ap (λ y. tok.Name x ∷ tok.Fixed s.Assign ∷ y) g.1)
-                        | inr p ↦ tail_to x p.0 b p.1 p.2 ts (item_operand p.0 p.1 p.3) p.4 (e ∙ ap (λ y. tok.Name x ∷ tok.Fixed s.Assign ∷ y) p.5)
+                        | inr k ↦ right5_to profile x b a ts k e
                       ]
                 ]
           ]
     ]
 
-simple_to : (b : Stmt) (ts : Tokens) → Simples b ts → IsSimple b ts
-simple_to b ts h =
+simples4_to : (profile : ℕ) (b : Stmt) (ts : Tokens) → Simples4 profile b ts → IsSimple profile b ts
+simples4_to profile b ts h =
+    elim h [
+      | inl i ↦ let v = i.1 in rw v.5 (v.3, v.4, v.6, v.7, v.8, eqb-true profile 2 i.0)
+      | inr p ↦
+          elim p.2 [
+            | inl q ↦ right_to profile p.0 b q.0 ts q.1 (p.3 ∙ ap (λ y. tok.Name p.0 ∷ y) q.2)
+            | inr q ↦ rw q.1 (p.1, q.2, p.3)
+          ]
+    ]
+
+simple_to : (profile : ℕ) (b : Stmt) (ts : Tokens) → Simples profile b ts → IsSimple profile b ts
+simple_to profile b ts h =
     elim h [
       | inl p ↦ rw p.2 (p.1, p.3, p.4)
       | inr k ↦
@@ -321,88 +372,103 @@ simple_to b ts h =
             | inr k ↦
                 elim k [
                   | inl m ↦ rw m.5 (m.3, m.4, m.6, m.7, m.8)
-                  | inr p ↦
-                      elim p.2 [
-                        | inl q ↦ right_to p.0 b q.0 ts q.1 (p.3 ∙ ap (λ y. tok.Name p.0 ∷ y) q.2)
-                        | inr q ↦ rw q.1 (p.1, q.2, p.3)
-                      ]
+                  | inr k ↦ simples4_to profile b ts k
                 ]
           ]
     ]
 
 -- an assignment, from its right side
-assigned : (x : List ℕ) (b : Stmt) (a ts : Tokens) → IsRight x b a → ts ≡ tok.Name x ∷ tok.Fixed s.Assign ∷ a → Simples b ts
-assigned x b a ts h e = inr (inr (inr (x, tok.Fixed s.Assign ∷ a, inl (a, h, refl), e)))
+assigned : (profile : ℕ) (x : List ℕ) (b : Stmt) (a ts : Tokens) → IsRight profile x b a → ts ≡ tok.Name x ∷ tok.Fixed s.Assign ∷ a → Simples profile b ts
+assigned profile x b a ts h e = inr (inr (inr (inr (x, tok.Fixed s.Assign ∷ a, inl (a, h, refl), e))))
+
+allowed : (profile : ℕ) → profile ≡ 2 → (profile == 2) ≡ true
+allowed profile e = rw e refl
 
 -- a right side, from its first operand and the rest
-right_from : (x : List ℕ) (left : Operand) (b : Stmt) (o c : Tokens) → IsOperand left o → IsTail x left b c → IsRight x b (o ++ c)
-right_from x (Reg y) b o c io h = inl (y, c, inr h, ap (λ z. z ++ c) io)
-right_from x (Number z) b o c io h = inr (inr (inr (inr (Number z, o, c, io, h, refl))))
-right_from x Null b o c io h = inr (inr (inr (inr (Null, o, c, io, h, refl))))
-right_from x (Address y z) b o c io h = inr (inr (inr (inr (Address y z, o, c, io, h, refl))))
+right_from : (profile : ℕ) (x : List ℕ) (left : Operand) (b : Stmt) (o c : Tokens) → IsOperand left o → IsTail x left b c → IsRight profile x b (o ++ c)
+right_from profile x (Reg y) b o c io h = inl (y, c, inr h, ap (λ z. z ++ c) io)
+right_from profile x (Number z) b o c io h = inr (inr (inr (inr (inr (Number z, o, c, io, h, refl)))))
+right_from profile x Null b o c io h = inr (inr (inr (inr (inr (Null, o, c, io, h, refl)))))
+right_from profile x (Address y z) b o c io h = inr (inr (inr (inr (inr (Address y z, o, c, io, h, refl)))))
 
-simple_from : (b : Stmt) (ts : Tokens) → IsSimple b ts → Simples b ts
-simple_from (Copy x from) ts h = assigned x (Copy x from) (h.0 ++ []) ts (right_from x from (Copy x from) h.0 [] h.1 (inr (inr (refl, refl)))) (h.2 ∙ ap (λ y. tok.Name x ∷ tok.Fixed s.Assign ∷ y) (sym (append-nil h.0)))
-simple_from (Arith x l o r) ts h = assigned x (Arith x l o r) (h.0 ++ tok.Fixed (op_symbol o) ∷ h.1) ts (right_from x l (Arith x l o r) h.0 (tok.Fixed (op_symbol o) ∷ h.1) h.2 (inl (o, r, h.1, refl, h.3, refl))) h.4
-simple_from (Compare x l c r) ts h = assigned x (Compare x l c r) (h.0 ++ tok.Fixed (cmp_symbol c) ∷ h.1) ts (right_from x l (Compare x l c r) h.0 (tok.Fixed (cmp_symbol c) ∷ h.1) h.2 (inr (inl (c, r, h.1, refl, h.3, refl)))) h.4
-simple_from (Convert x k from) ts h = assigned x (Convert x k from) (tok.Fixed s.Open ∷ tok.Fixed (scalar_symbol k) ∷ tok.Fixed s.Close ∷ h.0) ts (inr (inl (k, from, h.0, refl, h.1, refl))) h.2
-simple_from (Load x k place) ts h = assigned x (Load x k place) (mem_tokens k ++ h.0) ts (inr (inr (inl (k, place, h.0, refl, h.1, refl)))) h.2
-simple_from (Store k place from) ts h = inr (inr (inl (k, place, from, h.0, h.1, refl, h.2, h.3, h.4)))
-simple_from (Call None f xs) ts h = inr (inr (inr (f, h.0, inr (xs, refl, h.1), h.2)))
-simple_from (Call (Some x) f xs) ts h = assigned x (Call (Some x) f xs) (tok.Name f ∷ h.0) ts (inl (f, h.0, inl (xs, refl, h.1), refl)) h.2
-simple_from (Get x) ts h = assigned x (Get x) (tok.Fixed s.Getint ∷ tok.Fixed s.Open ∷ tok.Fixed s.Close ∷ []) ts (inr (inr (inr (inl (refl, refl))))) h
-simple_from (Put from) ts h = inl (from, h.0, refl, h.1, h.2)
-simple_from Abort ts h = inr (inl (refl, h))
+simple_from : (profile : ℕ) (b : Stmt) (ts : Tokens) → IsSimple profile b ts → Simples profile b ts
+simple_from profile (Copy x from) ts h = assigned profile x (Copy x from) (h.0 ++ []) ts (right_from profile x from (Copy x from) h.0 [] h.1 (inr (inr (refl, refl)))) (h.2 ∙ ap (λ y. tok.Name x ∷ tok.Fixed s.Assign ∷ y) (sym (append-nil h.0)))
+simple_from profile (Arith x l o r) ts h = assigned profile x (Arith x l o r) (h.0 ++ tok.Fixed (op_symbol o) ∷ h.1) ts (right_from profile x l (Arith x l o r) h.0 (tok.Fixed (op_symbol o) ∷ h.1) h.2 (inl (o, r, h.1, refl, h.3, refl))) h.4
+simple_from profile (Compare x l c r) ts h = assigned profile x (Compare x l c r) (h.0 ++ tok.Fixed (cmp_symbol c) ∷ h.1) ts (right_from profile x l (Compare x l c r) h.0 (tok.Fixed (cmp_symbol c) ∷ h.1) h.2 (inr (inl (c, r, h.1, refl, h.3, refl)))) h.4
+simple_from profile (Convert x k from) ts h = assigned profile x (Convert x k from) (tok.Fixed s.Open ∷ tok.Fixed (scalar_symbol k) ∷ tok.Fixed s.Close ∷ h.0) ts (inr (inl (k, from, h.0, refl, h.1, refl))) h.2
+simple_from profile (Load x k place) ts h = assigned profile x (Load x k place) (mem_tokens k ++ h.0) ts (inr (inr (inl (k, place, h.0, refl, h.1, refl)))) h.2
+simple_from profile (Store k place from) ts h = inr (inr (inl (k, place, from, h.0, h.1, refl, h.2, h.3, h.4)))
+simple_from profile (Call None f xs) ts h = inr (inr (inr (inr (f, h.0, inr (xs, refl, h.1), h.2))))
+simple_from profile (Call (Some x) f xs) ts h = assigned profile x (Call (Some x) f xs) (tok.Name f ∷ h.0) ts (inl (f, h.0, inl (xs, refl, h.1), refl)) h.2
+simple_from profile (Indirect None g y xs) ts h = inr (inr (inr (inl (allowed profile h.5, (g, y, xs, h.0, h.1, refl, h.2, h.3, h.4)))))
+simple_from profile (Indirect (Some x) g y xs) ts h = assigned profile x (Indirect (Some x) g y xs) (tok.Fixed s.Star ∷ h.0 ++ (tok.Name y ∷ h.1)) ts (inr (inr (inr (inr (inl (allowed profile h.5, (g, y, xs, h.0, h.1, refl, h.2, h.3, refl))))))) h.4
+simple_from profile (Get x) ts h = assigned profile x (Get x) (tok.Fixed s.Getint ∷ tok.Fixed s.Open ∷ tok.Fixed s.Close ∷ []) ts (inr (inr (inr (inl (refl, refl))))) h
+simple_from profile (Put from) ts h = inl (from, h.0, refl, h.1, h.2)
+simple_from profile Abort ts h = inr (inl (refl, h))
 
-other_exact : ReadsExactly (name >>= λ x. named x) IsOther (not_before s.Semi)
-other_exact = recast (after name_exact named_exact)
+other_exact : (profile : ℕ) → ReadsExactly (name >>= λ x. named profile x) (IsOther profile) (not_before s.Semi)
+other_exact profile = recast (after name_exact (named_exact profile))
     (λ b ts h. (h.0, h.2, h.4, cc))
     (λ b ts h. (h.0, tok.Name h.0 ∷ [], h.1, refl, h.2, h.3))
 
-simple_exact : ReadsExactly simple IsSimple (not_before s.Semi)
-unfolding simple sees
-simple_exact = recast (choose_exact (sees s.Putint) (sees_head s.Putint) _ _ IsPut (IsEither IsStop (IsEither IsStore IsOther)) (not_before s.Semi)
-    (widen put_exact (λ rest e. refl))
-    (choose_exact (sees s.Abort) (sees_head s.Abort) _ _ IsStop (IsEither IsStore IsOther) (not_before s.Semi)
-    (widen stop_exact (λ rest e. refl))
-    (choose_exact (sees s.Mem) (sees_head s.Mem) _ _ IsStore IsOther (not_before s.Semi)
-    (widen store_exact semi_at)
-    other_exact
+simples4_exact : (profile : ℕ) → ReadsExactly (choose (begins_indirect profile) (indirect None) (name >>= λ x. named profile x)) (Simples4 profile) (not_before s.Semi)
+unfolding sees
+simples4_exact profile = allowed_exact (sees s.Star) (sees_head s.Star) _ _ (IsIndirect None) (IsOther profile) (not_before s.Semi) (profile == 2)
+    (widen (indirect_exact None) (λ rest e. refl))
+    (other_exact profile)
     (λ b pre rest h stop. rw h.8 refl)
-    (λ b pre rest h stop. rw h.3 refl))
-    (λ b pre rest h stop. rw h.1 refl)
-    (λ b pre rest h stop. elim h [ inl m ↦ rw m.8 refl | inr o ↦ rw o.3 refl ]))
-    (λ b pre rest h stop. rw h.4 refl)
-    (λ b pre rest h stop. elim h [ inl a ↦ rw a.1 refl | inr k ↦ elim k [ inl m ↦ rw m.8 refl | inr o ↦ rw o.3 refl ] ]))
-    simple_to simple_from
+    (λ b pre rest h stop. rw h.3 refl)
 
-pub statement_exact : ReadsExactly statement IsStmt never
+-- a star or a name comes first
+simples4_first : (test : Tokens → Bool) → ((m : Tokens) → test (tok.Fixed s.Star ∷ m) ≡ false) → ((x : List ℕ) (m : Tokens) → test (tok.Name x ∷ m) ≡ false) → (profile : ℕ) (b : Stmt) (pre rest : Tokens) → Simples4 profile b pre → test (pre ++ rest) ≡ false
+simples4_first test star named profile b pre rest h = elim h [ inl i ↦ rw i.1.8 (star _) | inr o ↦ rw o.3 (named o.0 _) ]
+
+simple_exact : (profile : ℕ) → ReadsExactly (simple profile) (IsSimple profile) (not_before s.Semi)
+unfolding simple sees
+simple_exact profile = recast (choose_exact (sees s.Putint) (sees_head s.Putint) _ _ IsPut (IsEither IsStop (IsEither IsStore (Simples4 profile))) (not_before s.Semi)
+    (widen put_exact (λ rest e. refl))
+    (choose_exact (sees s.Abort) (sees_head s.Abort) _ _ IsStop (IsEither IsStore (Simples4 profile)) (not_before s.Semi)
+    (widen stop_exact (λ rest e. refl))
+    (choose_exact (sees s.Mem) (sees_head s.Mem) _ _ IsStore (Simples4 profile) (not_before s.Semi)
+    (widen store_exact semi_at)
+    (simples4_exact profile)
+    (λ b pre rest h stop. rw h.8 refl)
+    (λ b pre rest h stop. simples4_first (sees s.Mem) (λ m. refl) (λ x m. refl) profile b pre rest h))
+    (λ b pre rest h stop. rw h.1 refl)
+    (λ b pre rest h stop. elim h [ inl m ↦ rw m.8 refl | inr o ↦ simples4_first (sees s.Abort) (λ m. refl) (λ x m. refl) profile b pre rest o ]))
+    (λ b pre rest h stop. rw h.4 refl)
+    (λ b pre rest h stop. elim h [ inl a ↦ rw a.1 refl | inr k ↦ elim k [ inl m ↦ rw m.8 refl | inr o ↦ simples4_first (sees s.Putint) (λ m. refl) (λ x m. refl) profile b pre rest o ] ]))
+    (simple_to profile) (simple_from profile)
+
+pub statement_exact : (profile : ℕ) → ReadsExactly (statement profile) (IsStmt profile) never
 unfolding statement
-statement_exact = recast (then_symbol s.Semi simple_exact (λ rest e. ap not e) (λ found. pure_exact found))
+statement_exact profile = recast (then_symbol s.Semi (simple_exact profile) (λ rest e. ap not e) (λ found. pure_exact found))
     (λ b ts h. (h.1, rw h.4.4.0 h.3, let f : h.2 ≡ tok.Fixed s.Semi ∷ [] = cc in h.5 ∙ ap (λ y. h.1 ++ y) f))
     (λ b ts h. (b, h.0, tok.Fixed s.Semi ∷ [], h.1, (tt, tok.Fixed s.Semi ∷ [], [], refl, (refl, refl), refl), h.2))
 
 -- what a statement begins with
-simple_begins : (b : Stmt) (pre rest : Tokens) → IsSimple b pre → begins_statement (pre ++ rest) ≡ true
+simple_begins : (profile : ℕ) (b : Stmt) (pre rest : Tokens) → IsSimple profile b pre → begins_statement profile (pre ++ rest) ≡ true
 unfolding sees sees_name
-simple_begins (Copy x from) pre rest h = rw h.2 refl
-simple_begins (Arith x l o r) pre rest h = rw h.4 refl
-simple_begins (Compare x l c r) pre rest h = rw h.4 refl
-simple_begins (Convert x k from) pre rest h = rw h.2 refl
-simple_begins (Load x k place) pre rest h = rw h.2 refl
-simple_begins (Store k place from) pre rest h = rw h.4 refl
-simple_begins (Call None f xs) pre rest h = rw h.2 refl
-simple_begins (Call (Some x) f xs) pre rest h = rw h.2 refl
-simple_begins (Get x) pre rest h = rw h refl
-simple_begins (Put from) pre rest h = rw h.2 refl
-simple_begins Abort pre rest h = rw h refl
+simple_begins profile (Copy x from) pre rest h = rw h.2 refl
+simple_begins profile (Arith x l o r) pre rest h = rw h.4 refl
+simple_begins profile (Compare x l c r) pre rest h = rw h.4 refl
+simple_begins profile (Convert x k from) pre rest h = rw h.2 refl
+simple_begins profile (Load x k place) pre rest h = rw h.2 refl
+simple_begins profile (Store k place from) pre rest h = rw h.4 refl
+simple_begins profile (Call None f xs) pre rest h = rw h.2 refl
+simple_begins profile (Call (Some x) f xs) pre rest h = rw h.2 refl
+simple_begins profile (Indirect None g y xs) pre rest h = rw h.4 (allowed profile h.5)
+simple_begins profile (Indirect (Some x) g y xs) pre rest h = rw h.4 refl
+simple_begins profile (Get x) pre rest h = rw h refl
+simple_begins profile (Put from) pre rest h = rw h.2 refl
+simple_begins profile Abort pre rest h = rw h refl
 
-statement_begins : (b : Stmt) (pre rest : Tokens) → IsStmt b pre → begins_statement (pre ++ rest) ≡ true
-statement_begins b pre rest h = let e : pre ++ rest ≡ h.0 ++ (tok.Fixed s.Semi ∷ [] ++ rest) = rw h.2 (append_assoc h.0 (tok.Fixed s.Semi ∷ []) rest) in rw e (simple_begins b h.0 (tok.Fixed s.Semi ∷ [] ++ rest) h.1)
+statement_begins : (profile : ℕ) (b : Stmt) (pre rest : Tokens) → IsStmt profile b pre → begins_statement profile (pre ++ rest) ≡ true
+statement_begins profile b pre rest h = let e : pre ++ rest ≡ h.0 ++ (tok.Fixed s.Semi ∷ [] ++ rest) = rw h.2 (append_assoc h.0 (tok.Fixed s.Semi ∷ []) rest) in rw e (simple_begins profile b h.0 (tok.Fixed s.Semi ∷ [] ++ rest) h.1)
 
-begins_head : IsHeadTest begins_statement
+begins_head : (profile : ℕ) → IsHeadTest (begins_statement profile)
 unfolding sees sees_name
-begins_head = record { none = refl; same = λ t m m'. elim t as (λ t. begins_statement (t ∷ m) ≡ begins_statement (t ∷ m')) [ tok.Name n ↦ refl | tok.Number n ↦ refl | tok.Huge ↦ refl | tok.Fixed y ↦ refl ] }
+begins_head profile = record { none = refl; same = λ t m m'. elim t as (λ t. begins_statement profile (t ∷ m) ≡ begins_statement profile (t ∷ m')) [ tok.Name n ↦ refl | tok.Number n ↦ refl | tok.Huge ↦ refl | tok.Fixed y ↦ refl ] }
 
-pub statements_exact : ReadsExactly (many begins_statement statement []) (IsMore IsStmt []) begins_statement
-statements_exact = many_exact begins_statement begins_head statement IsStmt never begins_statement statement_exact statement_begins (λ ts e. refl) (λ rest e. e) (λ rest e. refl) []
+pub statements_exact : (profile : ℕ) → ReadsExactly (many (begins_statement profile) (statement profile) []) (IsMore (IsStmt profile) []) (begins_statement profile)
+statements_exact profile = many_exact (begins_statement profile) (begins_head profile) (statement profile) (IsStmt profile) never (begins_statement profile) (statement_exact profile) (statement_begins profile) (λ ts e. refl) (λ rest e. e) (λ rest e. refl) []

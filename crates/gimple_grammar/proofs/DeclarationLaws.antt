@@ -20,8 +20,8 @@ use Rattle.token_law.proofs.ReadsExactly.{ReadsExactly, IsHeadTest, IsEither, Is
 use Rattle.token_law.proofs.Many.{IsMore, many_exact}
 use Rattle.token_law.proofs.Leaves.{IsFixed, IsKeyed, sees_head, sees_one_head, sees_self, sees_one_self, seen_other, seen_test, fixed_exact, name_exact, number_exact, keyed_exact, fixed_avoids}
 use Rattle.token_law.proofs.Lists.{after, then_symbol, ends_with, some_exact, IsSome}
-use Rattle.gimple_grammar.specs.Grammar.{scalar_symbol, IsItem, shape_tokens, length_tokens, decl_tokens, IsField, IsStruct, const_tokens, IsItems, IsGlobal, IsResult, IsRegister, IsDeclared, IsLocal}
-use Rattle.gimple_grammar.specs.Readers.{scalars, sees_scalar, item, shape, array, decl, begins_decl, field, struct_def, constant, items, global_def, result, register, declared_register, local_decl}
+use Rattle.gimple_grammar.specs.Grammar.{scalar_symbol, IsItem, shape_tokens, length_tokens, decl_tokens, IsField, IsStruct, const_tokens, IsItems, IsGlobal, IsRegister, IsDeclared, IsLocal}
+use Rattle.gimple_grammar.specs.Readers.{scalars, sees_scalar, item, shape, array, decl, begins_decl, field, struct_def, constant, items, global_def, register, declared_register, local_decl}
 use Rattle.gimple_grammar.proofs.ValueLaws.{scalar_found, scalar_differs, scalar_exact, item_exact}
 
 -- ---- one declaration
@@ -297,25 +297,7 @@ global_avoids g pre rest h = rw h.2 refl
 pub globals_exact : ReadsExactly (many (sees s.Global) global_def []) (IsMore IsGlobal []) (sees s.Global)
 globals_exact = many_exact (sees s.Global) (sees_head s.Global) global_def IsGlobal never (sees s.Global) global_exact global_begins (λ ts e. refl) (λ rest e. e) (λ rest e. refl) []
 
--- ---- results, registers and locals
-
-abbrev IsGiven : Option Scalar → Tokens → Type 0
-IsGiven o ts = (k : Scalar) × (o ≡ Some k) × (ts ≡ tok.Fixed (scalar_symbol k) ∷ [])
-
-result_from : (o : Option Scalar) (ts : Tokens) → IsResult o ts → IsEither (IsKeyed s.Void None) IsGiven o ts
-result_from None ts h = inl (refl, h)
-result_from (Some k) ts h = inr (k, refl, h)
-
-pub result_exact : ReadsExactly result IsResult never
-unfolding result
-result_exact = recast (choose_exact (sees s.Void) (sees_head s.Void) _ _ (IsKeyed s.Void None) IsGiven never (keyed_exact s.Void None)
-    (recast (after scalar_exact (λ k. pure_exact (Some k)))
-    (λ o ts h. (h.0, h.4.0, cc))
-    (λ o ts h. (h.0, tok.Fixed (scalar_symbol h.0) ∷ [], [], refl, (h.1, refl), h.2)))
-    (λ o pre rest h stop. rw h.1 (sees_self s.Void rest))
-    (λ o pre rest h stop. rw h.2 (scalar_differs s.Void refl h.0 rest)))
-    (λ o ts h. elim h [ inl a ↦ rw a.0 a.1 | inr b ↦ rw b.1 b.2 ])
-    result_from
+-- ---- registers and locals
 
 pub register_exact : ReadsExactly register IsRegister never
 unfolding register

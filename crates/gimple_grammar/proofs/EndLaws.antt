@@ -311,21 +311,21 @@ ending_exact = recast (choose_exact (sees s.Goto) (sees_head s.Goto) _ _ IsGotoE
     (λ d pre rest h stop. elim h [ inl b ↦ rw b.10 refl | inr k ↦ elim k [ inl w ↦ rw w.8 refl | inr r ↦ rw r.4 refl ] ]))
     end_to end_from
 
-end_avoids : Avoids begins_statement IsEnd
+end_avoids : (profile : ℕ) → Avoids (begins_statement profile) IsEnd
 unfolding sees sees_name
-end_avoids (Goto n) pre rest h = rw h refl
-end_avoids (If l c r first second) pre rest h = rw h.4 refl
-end_avoids (Switch on cases other) pre rest h = rw h.4 refl
-end_avoids (Return None) pre rest h = rw h refl
-end_avoids (Return (Some o)) pre rest h = rw h.2 refl
+end_avoids profile (Goto n) pre rest h = rw h refl
+end_avoids profile (If l c r first second) pre rest h = rw h.4 refl
+end_avoids profile (Switch on cases other) pre rest h = rw h.4 refl
+end_avoids profile (Return None) pre rest h = rw h refl
+end_avoids profile (Return (Some o)) pre rest h = rw h.2 refl
 
 -- ---- blocks
 
-block_exact : ReadsExactly block IsBlock never
+block_exact : (profile : ℕ) → ReadsExactly (block profile) (IsBlock profile) never
 unfolding block
-block_exact = recast (after target_exact (λ label. after (fixed_exact s.Colon) (λ _. then_exact (many begins_statement statement []) _ _ _ begins_statement never statements_exact
+block_exact profile = recast (after target_exact (λ label. after (fixed_exact s.Colon) (λ _. then_exact (many (begins_statement profile) (statement profile) []) _ _ _ (begins_statement profile) never (statements_exact profile)
     (λ body. after ending_exact (λ end. pure_exact (record { label = label; body = body; end = end })))
-    (λ body b y rest h stop. front_avoids begins_statement IsEnd end_avoids h.0 h.1 h.2 y rest h.3 h.5))))
+    (λ body b y rest h stop. front_avoids (begins_statement profile) IsEnd (end_avoids profile) h.0 h.1 h.2 y rest h.3 h.5))))
     (λ b ts h.
     let body = h.4.4 in
     let end = body.4 in
@@ -341,12 +341,12 @@ block_exact = recast (after target_exact (λ label. after (fixed_exact s.Colon) 
       h.4,
     ))
 
-block_begins : (b : Block) (pre rest : Tokens) → IsBlock b pre → sees s.Less (pre ++ rest) ≡ true
-block_begins b pre rest h = rw h.4 (sees_self s.Less _)
+block_begins : (profile : ℕ) (b : Block) (pre rest : Tokens) → IsBlock profile b pre → sees s.Less (pre ++ rest) ≡ true
+block_begins profile b pre rest h = rw h.4 (sees_self s.Less _)
 
-pub block_avoids : (y : Symbol) → sameb the_type s.Less y ≡ false → Avoids (sees y) IsBlock
+pub block_avoids : (profile : ℕ) (y : Symbol) → sameb the_type s.Less y ≡ false → Avoids (sees y) (IsBlock profile)
 unfolding sees
-block_avoids y e b pre rest h = rw h.4 e
+block_avoids profile y e b pre rest h = rw h.4 e
 
-pub blocks_exact : ReadsExactly (many (sees s.Less) block []) (IsMore IsBlock []) (sees s.Less)
-blocks_exact = many_exact (sees s.Less) (sees_head s.Less) block IsBlock never (sees s.Less) block_exact block_begins (λ ts e. refl) (λ rest e. e) (λ rest e. refl) []
+pub blocks_exact : (profile : ℕ) → ReadsExactly (many (sees s.Less) (block profile) []) (IsMore (IsBlock profile) []) (sees s.Less)
+blocks_exact profile = many_exact (sees s.Less) (sees_head s.Less) (block profile) (IsBlock profile) never (sees s.Less) (block_exact profile) (block_begins profile) (λ ts e. refl) (λ rest e. e) (λ rest e. refl) []

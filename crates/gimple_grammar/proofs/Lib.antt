@@ -1,4 +1,5 @@
 pub mod ValueLaws
+pub mod SignatureLaws
 pub mod BodyLaws
 pub mod EndLaws
 pub mod DeclarationLaws

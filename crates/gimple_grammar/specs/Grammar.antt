@@ -11,8 +11,9 @@ use Rattle.gimple_ir.specs.declared.scalar.Cmp.{Cmp}
 use Rattle.gimple_ir.specs.declared.scalar.Cmp.TheVariants as cmp
 use Rattle.gimple_ir.specs.declared.scalar.Scalar.{Scalar}
 use Rattle.gimple_ir.specs.declared.scalar.Scalar.TheVariants as kind
+use Rattle.gimple_ir.specs.declared.statement.Signature.{Signature}
 use Rattle.gimple_ir.specs.declared.statement.Stmt.{Stmt}
-use Rattle.gimple_ir.specs.declared.statement.Stmt.TheVariants.{Copy, Arith, Compare, Convert, Load, Store, Call, Get, Put, Abort}
+use Rattle.gimple_ir.specs.declared.statement.Stmt.TheVariants.{Copy, Arith, Compare, Convert, Load, Store, Call, Indirect, Get, Put, Abort}
 use Rattle.gimple_ir.specs.declared.block.Case.{Case}
 use Rattle.gimple_ir.specs.declared.block.End.{End}
 use Rattle.gimple_ir.specs.declared.block.End.TheVariants.{Goto, If, Switch, Return}
@@ -25,6 +26,7 @@ use Rattle.gimple_ir.specs.declared.declarations.Global.{Global}
 use Rattle.gimple_ir.specs.declared.declarations.Register.{Register}
 use Rattle.gimple_ir.specs.declared.program.Function.{Function}
 use Rattle.gimple_ir.specs.declared.program.Program.{Program}
+use Rattle.gimple_ir.specs.Spellable.{IsProfile}
 use Rattle.gimple_tokens.specs.declared.token.Symbol.{Symbol}
 use Rattle.gimple_tokens.specs.declared.token.Symbol.TheVariants as s
 use Rattle.gimple_tokens.specs.declared.token.Token.TheVariants as tok
@@ -108,28 +110,43 @@ IsPlace p ts = (a : Tokens) × IsOffset p.offset a × (ts ≡ tok.Fixed s.OpenBr
 abbrev pub mem_tokens : Scalar → Tokens
 mem_tokens k = tok.Fixed s.Mem ∷ tok.Fixed s.Less ∷ tok.Fixed (scalar_symbol k) ∷ tok.Fixed s.Greater ∷ []
 
--- ---- statements
+-- ---- signatures
+
+abbrev pub IsResult : Option Scalar → Tokens → Type 0
+IsResult None ts = ts ≡ tok.Fixed s.Void ∷ []
+IsResult (Some k) ts = ts ≡ tok.Fixed (scalar_symbol k) ∷ []
+
+abbrev pub IsScalar : Scalar → Tokens → Type 0
+IsScalar k ts = ts ≡ tok.Fixed (scalar_symbol k) ∷ []
+
+-- what an indirect call says of its callee
+abbrev pub IsSignature : Signature → Tokens → Type 0
+IsSignature g ts = (gives : Tokens) × (params : Tokens) × IsResult g.result gives × IsSeparated IsScalar g.params params
+    × (ts ≡ tok.Fixed s.Less ∷ gives ++ (tok.Fixed s.Open ∷ params ++ (tok.Fixed s.Close ∷ tok.Fixed s.Greater ∷ [])))
+
+-- ---- statements, in a program of a profile
 
 -- the target of a call, where there is one
 abbrev pub to_tokens : Option (List ℕ) → Tokens
 to_tokens None = []
 to_tokens (Some x) = tok.Name x ∷ tok.Fixed s.Assign ∷ []
 
--- a statement without its semicolon
-abbrev pub IsSimple : Stmt → Tokens → Type 0
-IsSimple (Copy x from) ts = (a : Tokens) × IsOperand from a × (ts ≡ tok.Name x ∷ tok.Fixed s.Assign ∷ a)
-IsSimple (Arith x l o r) ts = (a : Tokens) × (b : Tokens) × IsOperand l a × IsOperand r b × (ts ≡ tok.Name x ∷ tok.Fixed s.Assign ∷ a ++ tok.Fixed (op_symbol o) ∷ b)
-IsSimple (Compare x l c r) ts = (a : Tokens) × (b : Tokens) × IsOperand l a × IsOperand r b × (ts ≡ tok.Name x ∷ tok.Fixed s.Assign ∷ a ++ tok.Fixed (cmp_symbol c) ∷ b)
-IsSimple (Convert x k from) ts = (a : Tokens) × IsOperand from a × (ts ≡ tok.Name x ∷ tok.Fixed s.Assign ∷ tok.Fixed s.Open ∷ tok.Fixed (scalar_symbol k) ∷ tok.Fixed s.Close ∷ a)
-IsSimple (Load x k place) ts = (a : Tokens) × IsPlace place a × (ts ≡ tok.Name x ∷ tok.Fixed s.Assign ∷ mem_tokens k ++ a)
-IsSimple (Store k place from) ts = (a : Tokens) × (b : Tokens) × IsPlace place a × IsOperand from b × (ts ≡ mem_tokens k ++ (a ++ tok.Fixed s.Assign ∷ b))
-IsSimple (Call to f xs) ts = (a : Tokens) × IsArguments xs a × (ts ≡ to_tokens to ++ tok.Name f ∷ a)
-IsSimple (Get x) ts = ts ≡ tok.Name x ∷ tok.Fixed s.Assign ∷ tok.Fixed s.Getint ∷ tok.Fixed s.Open ∷ tok.Fixed s.Close ∷ []
-IsSimple (Put from) ts = (a : Tokens) × IsOperand from a × (ts ≡ tok.Fixed s.Putint ∷ tok.Fixed s.Open ∷ a ++ tok.Fixed s.Close ∷ [])
-IsSimple Abort ts = ts ≡ tok.Fixed s.Abort ∷ tok.Fixed s.Open ∷ tok.Fixed s.Close ∷ []
+-- a statement without its semicolon; an indirect call stands in profile 2 alone
+abbrev pub IsSimple : ℕ → Stmt → Tokens → Type 0
+IsSimple profile (Copy x from) ts = (a : Tokens) × IsOperand from a × (ts ≡ tok.Name x ∷ tok.Fixed s.Assign ∷ a)
+IsSimple profile (Arith x l o r) ts = (a : Tokens) × (b : Tokens) × IsOperand l a × IsOperand r b × (ts ≡ tok.Name x ∷ tok.Fixed s.Assign ∷ a ++ tok.Fixed (op_symbol o) ∷ b)
+IsSimple profile (Compare x l c r) ts = (a : Tokens) × (b : Tokens) × IsOperand l a × IsOperand r b × (ts ≡ tok.Name x ∷ tok.Fixed s.Assign ∷ a ++ tok.Fixed (cmp_symbol c) ∷ b)
+IsSimple profile (Convert x k from) ts = (a : Tokens) × IsOperand from a × (ts ≡ tok.Name x ∷ tok.Fixed s.Assign ∷ tok.Fixed s.Open ∷ tok.Fixed (scalar_symbol k) ∷ tok.Fixed s.Close ∷ a)
+IsSimple profile (Load x k place) ts = (a : Tokens) × IsPlace place a × (ts ≡ tok.Name x ∷ tok.Fixed s.Assign ∷ mem_tokens k ++ a)
+IsSimple profile (Store k place from) ts = (a : Tokens) × (b : Tokens) × IsPlace place a × IsOperand from b × (ts ≡ mem_tokens k ++ (a ++ tok.Fixed s.Assign ∷ b))
+IsSimple profile (Call to f xs) ts = (a : Tokens) × IsArguments xs a × (ts ≡ to_tokens to ++ tok.Name f ∷ a)
+IsSimple profile (Indirect to g x xs) ts = (a : Tokens) × (b : Tokens) × IsSignature g a × IsArguments xs b × (ts ≡ to_tokens to ++ (tok.Fixed s.Star ∷ a ++ (tok.Name x ∷ b))) × (profile ≡ 2)
+IsSimple profile (Get x) ts = ts ≡ tok.Name x ∷ tok.Fixed s.Assign ∷ tok.Fixed s.Getint ∷ tok.Fixed s.Open ∷ tok.Fixed s.Close ∷ []
+IsSimple profile (Put from) ts = (a : Tokens) × IsOperand from a × (ts ≡ tok.Fixed s.Putint ∷ tok.Fixed s.Open ∷ a ++ tok.Fixed s.Close ∷ [])
+IsSimple profile Abort ts = ts ≡ tok.Fixed s.Abort ∷ tok.Fixed s.Open ∷ tok.Fixed s.Close ∷ []
 
-abbrev pub IsStmt : Stmt → Tokens → Type 0
-IsStmt x ts = (a : Tokens) × IsSimple x a × (ts ≡ a ++ tok.Fixed s.Semi ∷ [])
+abbrev pub IsStmt : ℕ → Stmt → Tokens → Type 0
+IsStmt profile x ts = (a : Tokens) × IsSimple profile x a × (ts ≡ a ++ tok.Fixed s.Semi ∷ [])
 
 -- ---- ends and blocks
 
@@ -151,8 +168,8 @@ IsEnd (Switch on cases other) ts = (a : Tokens) × (b : Tokens) × IsOperand on 
 IsEnd (Return None) ts = ts ≡ tok.Fixed s.Return ∷ tok.Fixed s.Semi ∷ []
 IsEnd (Return (Some o)) ts = (a : Tokens) × IsOperand o a × (ts ≡ tok.Fixed s.Return ∷ a ++ tok.Fixed s.Semi ∷ [])
 
-abbrev pub IsBlock : Block → Tokens → Type 0
-IsBlock b ts = (body : Tokens) × (end : Tokens) × IsMany IsStmt b.body body × IsEnd b.end end × (ts ≡ target_tokens b.label ++ tok.Fixed s.Colon ∷ body ++ end)
+abbrev pub IsBlock : ℕ → Block → Tokens → Type 0
+IsBlock profile b ts = (body : Tokens) × (end : Tokens) × IsMany (IsStmt profile) b.body body × IsEnd b.end end × (ts ≡ target_tokens b.label ++ tok.Fixed s.Colon ∷ body ++ end)
 
 -- ---- declarations
 
@@ -187,10 +204,6 @@ IsGlobal g ts = (a : Tokens) × IsItems g.items a × (ts ≡ tok.Fixed s.Global 
 
 -- ---- functions and programs
 
-abbrev pub IsResult : Option Scalar → Tokens → Type 0
-IsResult None ts = ts ≡ tok.Fixed s.Void ∷ []
-IsResult (Some k) ts = ts ≡ tok.Fixed (scalar_symbol k) ∷ []
-
 abbrev pub IsRegister : Register → Tokens → Type 0
 IsRegister r ts = ts ≡ tok.Fixed (scalar_symbol r.scalar) ∷ tok.Name r.name ∷ []
 
@@ -200,11 +213,12 @@ IsDeclared r ts = ts ≡ tok.Fixed (scalar_symbol r.scalar) ∷ tok.Name r.name 
 abbrev pub IsLocal : Decl → Tokens → Type 0
 IsLocal d ts = ts ≡ tok.Fixed s.Local ∷ decl_tokens d ++ tok.Fixed s.Semi ∷ []
 
-abbrev pub IsFunction : Function → Tokens → Type 0
-IsFunction f ts = (gives : Tokens) × (params : Tokens) × (locals : Tokens) × (registers : Tokens) × (blocks : Tokens)
-    × IsResult f.result gives × IsSeparated IsRegister f.params params × IsMany IsLocal f.locals locals × IsMany IsDeclared f.registers registers × IsMany IsBlock f.blocks blocks
+abbrev pub IsFunction : ℕ → Function → Tokens → Type 0
+IsFunction profile f ts = (gives : Tokens) × (params : Tokens) × (locals : Tokens) × (registers : Tokens) × (blocks : Tokens)
+    × IsResult f.result gives × IsSeparated IsRegister f.params params × IsMany IsLocal f.locals locals × IsMany IsDeclared f.registers registers × IsMany (IsBlock profile) f.blocks blocks
     × (ts ≡ gives ++ (tok.Name f.name ∷ tok.Fixed s.Open ∷ params ++ (tok.Fixed s.Close ∷ tok.Fixed s.OpenBrace ∷ locals ++ (registers ++ (blocks ++ tok.Fixed s.CloseBrace ∷ [])))))
 
+-- the header's number is the profile
 abbrev pub IsProgram : Program → Tokens → Type 0
-IsProgram p ts = (structs : Tokens) × (globals : Tokens) × (functions : Tokens) × IsMany IsStruct p.structs structs × IsMany IsGlobal p.globals globals × IsMany IsFunction p.functions functions
-    × (ts ≡ tok.Fixed s.Gimple ∷ tok.Number 1 ∷ tok.Fixed s.Semi ∷ structs ++ (globals ++ functions))
+IsProgram p ts = (structs : Tokens) × (globals : Tokens) × (functions : Tokens) × IsMany IsStruct p.structs structs × IsMany IsGlobal p.globals globals × IsMany (IsFunction p.profile) p.functions functions
+    × (ts ≡ tok.Fixed s.Gimple ∷ tok.Number p.profile ∷ tok.Fixed s.Semi ∷ structs ++ (globals ++ functions)) × IsProfile p.profile

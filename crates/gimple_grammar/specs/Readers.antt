@@ -1,5 +1,5 @@
 -- The readers of programs.
-use Rattle.std.specs.Prelude.{ℕ, Bool, true, false, ◌||◌, List, [], ◌∷◌, Option, Some, None, ℤ, pos}
+use Rattle.std.specs.Prelude.{ℕ, ◌==◌, Bool, true, false, ◌&&◌, ◌||◌, List, [], ◌∷◌, Option, Some, None, ℤ, pos}
 use Rattle.gimple_ir.specs.declared.operand.Operand.{Operand}
 use Rattle.gimple_ir.specs.declared.operand.Operand.TheVariants.{Reg, Number, Null, Address}
 use Rattle.gimple_ir.specs.declared.operand.Base.{Base}
@@ -11,8 +11,9 @@ use Rattle.gimple_ir.specs.declared.scalar.Cmp.{Cmp}
 use Rattle.gimple_ir.specs.declared.scalar.Cmp.TheVariants as cmp
 use Rattle.gimple_ir.specs.declared.scalar.Scalar.{Scalar}
 use Rattle.gimple_ir.specs.declared.scalar.Scalar.TheVariants as kind
+use Rattle.gimple_ir.specs.declared.statement.Signature.{Signature}
 use Rattle.gimple_ir.specs.declared.statement.Stmt.{Stmt}
-use Rattle.gimple_ir.specs.declared.statement.Stmt.TheVariants.{Copy, Arith, Compare, Convert, Load, Store, Call, Get, Put, Abort}
+use Rattle.gimple_ir.specs.declared.statement.Stmt.TheVariants.{Copy, Arith, Compare, Convert, Load, Store, Call, Indirect, Get, Put, Abort}
 use Rattle.gimple_ir.specs.declared.block.Case.{Case}
 use Rattle.gimple_ir.specs.declared.block.End.{End}
 use Rattle.gimple_ir.specs.declared.block.End.TheVariants.{Goto, If, Switch, Return}
@@ -26,7 +27,7 @@ use Rattle.gimple_ir.specs.declared.declarations.Register.{Register}
 use Rattle.gimple_ir.specs.declared.program.Function.{Function}
 use Rattle.gimple_ir.specs.declared.program.Program.{Program}
 use Rattle.gimple_tokens.specs.declared.token.Symbol.TheVariants as s
-use Rattle.token_law.specs.Reading.{Tokens, Parser, ◌>>=◌, ◌>>◌, pure, choose, many, sees, sees_name, keyed, one_of, sees_one, fixed, name, number, one, end_of_text, one_or_more, separated}
+use Rattle.token_law.specs.Reading.{Tokens, Parser, ◌>>=◌, ◌>>◌, pure, choose, many, sees, sees_name, keyed, one_of, sees_one, fixed, name, number, profile_number, end_of_text, one_or_more, separated}
 use Rattle.gimple_grammar.specs.Grammar.{negative, scalar_symbol, op_symbol, cmp_symbol}
 
 abbrev pub scalars : List Scalar
@@ -108,7 +109,34 @@ mem = do
   fixed s.Greater
   pure k
 
--- ---- statements
+-- ---- signatures and indirect calls
+
+unfoldable pub result : Parser (Option Scalar)
+result = choose (sees s.Void) (keyed s.Void None) (do k ← scalar; pure (Some k))
+
+unfoldable pub signature : Parser Signature
+signature = do
+  fixed s.Less
+  gives ← result
+  fixed s.Open
+  params ← separated scalar
+  fixed s.Close
+  fixed s.Greater
+  pure (record { params = params; result = gives })
+
+unfoldable pub indirect : Option (List ℕ) → Parser Stmt
+indirect to = do
+  fixed s.Star
+  g ← signature
+  x ← name
+  xs ← arguments
+  pure (Indirect to g x xs)
+
+-- in a program of profile 2 alone
+abbrev pub begins_indirect : ℕ → Tokens → Bool
+begins_indirect profile ts = sees s.Star ts && (profile == 2)
+
+-- ---- statements, in a program of a profile
 
 -- what follows the first operand of an assignment
 unfoldable pub tail : List ℕ → Operand → Parser Stmt
@@ -139,11 +167,12 @@ get x = do
   fixed s.Close
   pure (Get x)
 
-unfoldable pub right_side : List ℕ → Parser Stmt
-right_side x = choose sees_name (do y ← name; after_name x y) (choose (sees s.Open) (convert x) (choose (sees s.Mem) (load x) (choose (sees s.Getint) (get x) (do left ← item; tail x left))))
+unfoldable pub right_side : ℕ → List ℕ → Parser Stmt
+right_side profile x = choose sees_name (do y ← name; after_name x y) (choose (sees s.Open) (convert x) (choose (sees s.Mem) (load x) (choose (sees s.Getint) (get x)
+    (choose (begins_indirect profile) (indirect (Some x)) (do left ← item; tail x left)))))
 
-unfoldable pub named : List ℕ → Parser Stmt
-named x = choose (sees s.Assign) (do fixed s.Assign; right_side x) (do xs ← arguments; pure (Call None x xs))
+unfoldable pub named : ℕ → List ℕ → Parser Stmt
+named profile x = choose (sees s.Assign) (do fixed s.Assign; right_side profile x) (do xs ← arguments; pure (Call None x xs))
 
 unfoldable pub put : Parser Stmt
 put = do
@@ -168,17 +197,17 @@ store = do
   from ← operand
   pure (Store k p from)
 
-unfoldable pub simple : Parser Stmt
-simple = choose (sees s.Putint) put (choose (sees s.Abort) stop (choose (sees s.Mem) store (do x ← name; named x)))
+unfoldable pub simple : ℕ → Parser Stmt
+simple profile = choose (sees s.Putint) put (choose (sees s.Abort) stop (choose (sees s.Mem) store (choose (begins_indirect profile) (indirect None) (do x ← name; named profile x))))
 
-unfoldable pub statement : Parser Stmt
-statement = do
-  found ← simple
+unfoldable pub statement : ℕ → Parser Stmt
+statement profile = do
+  found ← simple profile
   fixed s.Semi
   pure found
 
-abbrev pub begins_statement : Tokens → Bool
-begins_statement ts = sees_name ts || sees s.Putint ts || sees s.Abort ts || sees s.Mem ts
+abbrev pub begins_statement : ℕ → Tokens → Bool
+begins_statement profile ts = sees_name ts || sees s.Putint ts || sees s.Abort ts || sees s.Mem ts || begins_indirect profile ts
 
 -- ---- ends and blocks
 
@@ -247,11 +276,11 @@ return_end = do
 unfoldable pub ending : Parser End
 ending = choose (sees s.Goto) (do to ← goto; pure (Goto to)) (choose (sees s.If) branches (choose (sees s.Switch) switch_end return_end))
 
-unfoldable pub block : Parser Block
-block = do
+unfoldable pub block : ℕ → Parser Block
+block profile = do
   label ← target
   fixed s.Colon
-  body ← many begins_statement statement []
+  body ← many (begins_statement profile) (statement profile) []
   end ← ending
   pure (record { label = label; body = body; end = end })
 
@@ -306,9 +335,6 @@ global_def = do
 
 -- ---- functions and programs
 
-unfoldable pub result : Parser (Option Scalar)
-result = choose (sees s.Void) (keyed s.Void None) (do k ← scalar; pure (Some k))
-
 unfoldable pub register : Parser Register
 register = do
   k ← scalar
@@ -328,8 +354,8 @@ local_decl = do
   fixed s.Semi
   pure d
 
-unfoldable pub function : Parser Function
-function = do
+unfoldable pub function : ℕ → Parser Function
+function profile = do
   gives ← result
   x ← name
   fixed s.Open
@@ -338,7 +364,7 @@ function = do
   fixed s.OpenBrace
   locals ← many (sees s.Local) local_decl []
   registers ← many sees_scalar declared_register []
-  blocks ← many (sees s.Less) block []
+  blocks ← many (sees s.Less) (block profile) []
   fixed s.CloseBrace
   pure (record { name = x; params = params; result = gives; locals = locals; registers = registers; blocks = blocks })
 
@@ -348,10 +374,10 @@ begins_function ts = sees s.Void ts || sees_scalar ts
 unfoldable pub program : Parser Program
 program = do
   fixed s.Gimple
-  one
+  profile ← profile_number
   fixed s.Semi
   structs ← many (sees s.Struct) struct_def []
   globals ← many (sees s.Global) global_def []
-  functions ← many begins_function function []
+  functions ← many begins_function (function profile) []
   end_of_text
-  pure (record { structs = structs; globals = globals; functions = functions })
+  pure (record { profile = profile; structs = structs; globals = globals; functions = functions })

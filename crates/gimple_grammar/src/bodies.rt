@@ -5,6 +5,7 @@ ghost use Rattle.token_law.specs.Reading as read;
 ghost use Rattle.token_law.specs.Reading.{Reads};
 ghost use Rattle.gimple_grammar.specs.Readers as spec;
 
+use crate::signatures::{begins_indirect, indirect};
 use crate::symbols::{comparison, operator, scalar, sees_comparison, sees_operator};
 use crate::values::{arguments, item, mem, operand, place};
 use gimple_ir::{Operand, Stmt, Stmts, Text};
@@ -87,8 +88,8 @@ fn get(tokens: &mut Cursor<'_>, to: Text) -> Result<Stmt, Fault>
 }
 
 #[tactic(auto, unfolding(crate::specs::Readers::right_side))]
-fn right_side(alloc: Global, tokens: &mut Cursor<'_>, to: Text) -> Result<Stmt, Fault>
-    ensures { Reads (spec.right_side to tokens.old) result tokens.new }
+fn right_side(alloc: Global, tokens: &mut Cursor<'_>, profile: u8, to: Text) -> Result<Stmt, Fault>
+    ensures { Reads (spec.right_side profile to tokens.old) result tokens.new }
 {
     if tokens.sees_name() {
         let from = tokens.name()?;
@@ -99,6 +100,8 @@ fn right_side(alloc: Global, tokens: &mut Cursor<'_>, to: Text) -> Result<Stmt, 
         load(tokens, to)
     } else if tokens.sees(Symbol::Getint) {
         get(tokens, to)
+    } else if begins_indirect(tokens, profile) {
+        indirect(alloc, tokens, Some(to))
     } else {
         let left = item(tokens)?;
         tail(tokens, to, left)
@@ -106,12 +109,12 @@ fn right_side(alloc: Global, tokens: &mut Cursor<'_>, to: Text) -> Result<Stmt, 
 }
 
 #[tactic(auto, unfolding(crate::specs::Readers::named))]
-fn named(alloc: Global, tokens: &mut Cursor<'_>, name: Text) -> Result<Stmt, Fault>
-    ensures { Reads (spec.named name tokens.old) result tokens.new }
+fn named(alloc: Global, tokens: &mut Cursor<'_>, profile: u8, name: Text) -> Result<Stmt, Fault>
+    ensures { Reads (spec.named profile name tokens.old) result tokens.new }
 {
     if tokens.sees(Symbol::Assign) {
         tokens.fixed(Symbol::Assign)?;
-        right_side(alloc, tokens, name)
+        right_side(alloc, tokens, profile, name)
     } else {
         let arguments = arguments(alloc, tokens)?;
         Ok(Stmt::Call {
@@ -159,8 +162,8 @@ fn store(tokens: &mut Cursor<'_>) -> Result<Stmt, Fault>
 }
 
 #[tactic(auto, unfolding(crate::specs::Readers::simple))]
-fn simple(alloc: Global, tokens: &mut Cursor<'_>) -> Result<Stmt, Fault>
-    ensures { Reads (spec.simple tokens.old) result tokens.new }
+fn simple(alloc: Global, tokens: &mut Cursor<'_>, profile: u8) -> Result<Stmt, Fault>
+    ensures { Reads (spec.simple profile tokens.old) result tokens.new }
 {
     if tokens.sees(Symbol::Putint) {
         put(tokens)
@@ -168,41 +171,44 @@ fn simple(alloc: Global, tokens: &mut Cursor<'_>) -> Result<Stmt, Fault>
         stop(tokens)
     } else if tokens.sees(Symbol::Mem) {
         store(tokens)
+    } else if begins_indirect(tokens, profile) {
+        indirect(alloc, tokens, None)
     } else {
         let name = tokens.name()?;
-        named(alloc, tokens, name)
+        named(alloc, tokens, profile, name)
     }
 }
 
 #[tactic(auto, unfolding(crate::specs::Readers::statement))]
-fn statement(alloc: Global, tokens: &mut Cursor<'_>) -> Result<Stmt, Fault>
-    ensures { Reads (spec.statement tokens.old) result tokens.new }
+fn statement(alloc: Global, tokens: &mut Cursor<'_>, profile: u8) -> Result<Stmt, Fault>
+    ensures { Reads (spec.statement profile tokens.old) result tokens.new }
 {
-    let found = simple(alloc, tokens)?;
+    let found = simple(alloc, tokens, profile)?;
     tokens.fixed(Symbol::Semi)?;
     Ok(found)
 }
 
-fn begins_statement(tokens: &Cursor<'_>) -> bool
-    ensures { result ≡ spec.begins_statement tokens.now }
+fn begins_statement(tokens: &Cursor<'_>, profile: u8) -> bool
+    ensures { result ≡ spec.begins_statement profile tokens.now }
 {
     tokens.sees_name()
         || tokens.sees(Symbol::Putint)
         || tokens.sees(Symbol::Abort)
         || tokens.sees(Symbol::Mem)
+        || begins_indirect(tokens, profile)
 }
 
 // Statements, as long as one begins.
 #[tactic(auto, using(token_law::proofs::Turns::goes_on, token_law::proofs::Turns::stops, token_law::proofs::Turns::fails, token_law::proofs::Turns::ends))]
-pub fn statements(alloc: Global, tokens: &mut Cursor<'_>) -> Result<Stmts, Fault>
-    ensures { Reads (read.many spec.begins_statement spec.statement [] tokens.old) result tokens.new }
+pub fn statements(alloc: Global, tokens: &mut Cursor<'_>, profile: u8) -> Result<Stmts, Fault>
+    ensures { Reads (read.many (spec.begins_statement profile) (spec.statement profile) [] tokens.old) result tokens.new }
 {
     let mut found = Stmts::new(alloc);
     for _turn in 0..tokens.left() {
-        if !begins_statement(tokens) {
+        if !begins_statement(tokens, profile) {
             return Ok(found);
         }
-        found.push(statement(alloc, tokens)?)?;
+        found.push(statement(alloc, tokens, profile)?)?;
     }
     Ok(found)
 }

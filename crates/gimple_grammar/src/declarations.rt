@@ -9,7 +9,7 @@ ghost use Rattle.gimple_grammar.specs.Readers as spec;
 use crate::symbols::{scalar, sees_scalar};
 use crate::values::one_or_more_items;
 use gimple_ir::{
-    Decl, Decls, Global, Globals, Items, Register, Registers, Scalar, Shape, StructDef, StructDefs,
+    Decl, Decls, Global, Globals, Items, Register, Registers, Shape, StructDef, StructDefs,
 };
 use gimple_tokens::Symbol;
 use std::alloc::Global as Heap;
@@ -168,19 +168,6 @@ pub fn globals(alloc: Heap, tokens: &mut Cursor<'_>) -> Result<Globals, Fault>
         found.push(global_def(alloc, tokens)?)?;
     }
     Ok(found)
-}
-
-#[tactic(auto, unfolding(crate::specs::Readers::result))]
-pub fn gives(tokens: &mut Cursor<'_>) -> Result<Option<Scalar>, Fault>
-    ensures { Reads (spec.result tokens.old) result tokens.new }
-{
-    if tokens.sees(Symbol::Void) {
-        tokens.fixed(Symbol::Void)?;
-        Ok(None)
-    } else {
-        let scalar = scalar(tokens)?;
-        Ok(Some(scalar))
-    }
 }
 
 #[tactic(auto, unfolding(crate::specs::Readers::register))]

@@ -140,26 +140,26 @@ fn ending(alloc: Global, tokens: &mut Cursor<'_>) -> Result<End, Fault>
 }
 
 #[tactic(auto, unfolding(crate::specs::Readers::block))]
-fn block(alloc: Global, tokens: &mut Cursor<'_>) -> Result<Block, Fault>
-    ensures { Reads (spec.block tokens.old) result tokens.new }
+fn block(alloc: Global, tokens: &mut Cursor<'_>, profile: u8) -> Result<Block, Fault>
+    ensures { Reads (spec.block profile tokens.old) result tokens.new }
 {
     let label = target(tokens)?;
     tokens.fixed(Symbol::Colon)?;
-    let body = statements(alloc, tokens)?;
+    let body = statements(alloc, tokens, profile)?;
     let end = ending(alloc, tokens)?;
     Ok(Block { label, body, end })
 }
 
 #[tactic(auto, using(token_law::proofs::Turns::goes_on, token_law::proofs::Turns::stops, token_law::proofs::Turns::fails, token_law::proofs::Turns::ends))]
-pub fn blocks(alloc: Global, tokens: &mut Cursor<'_>) -> Result<Blocks, Fault>
-    ensures { Reads (read.many (read.sees s.Less) spec.block [] tokens.old) result tokens.new }
+pub fn blocks(alloc: Global, tokens: &mut Cursor<'_>, profile: u8) -> Result<Blocks, Fault>
+    ensures { Reads (read.many (read.sees s.Less) (spec.block profile) [] tokens.old) result tokens.new }
 {
     let mut found = Blocks::new(alloc);
     for _turn in 0..tokens.left() {
         if !tokens.sees(Symbol::Less) {
             return Ok(found);
         }
-        found.push(block(alloc, tokens)?)?;
+        found.push(block(alloc, tokens, profile)?)?;
     }
     Ok(found)
 }

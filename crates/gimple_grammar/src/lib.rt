@@ -4,6 +4,7 @@
 mod bodies;
 mod declarations;
 mod endings;
+mod signatures;
 mod symbols;
 mod values;
 mod whole;

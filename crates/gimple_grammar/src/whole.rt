@@ -9,8 +9,9 @@ ghost use Rattle.gimple_ir.specs.declared.program.Program as syntax;
 ghost use Rattle.gimple_grammar.specs.Grammar.{IsProgram};
 ghost use Rattle.gimple_grammar.specs.TokenFaults.{FaultOf, ReadsAs};
 
-use crate::declarations::{gives, globals, locals, params, registers, structs};
+use crate::declarations::{globals, locals, params, registers, structs};
 use crate::endings::blocks;
+use crate::signatures::gives;
 use crate::symbols::sees_scalar;
 use gimple_ir::{Function, Functions, Program};
 use gimple_tokens::{Symbol, Token};
@@ -18,8 +19,8 @@ use std::alloc::Global;
 use token_law::{Cursor, Fault};
 
 #[tactic(auto, unfolding(crate::specs::Readers::function))]
-fn function(alloc: Global, tokens: &mut Cursor<'_>) -> Result<Function, Fault>
-    ensures { Reads (spec.function tokens.old) result tokens.new }
+fn function(alloc: Global, tokens: &mut Cursor<'_>, profile: u8) -> Result<Function, Fault>
+    ensures { Reads (spec.function profile tokens.old) result tokens.new }
 {
     let result_scalar = gives(tokens)?;
     let name = tokens.name()?;
@@ -29,7 +30,7 @@ fn function(alloc: Global, tokens: &mut Cursor<'_>) -> Result<Function, Fault>
     tokens.fixed(Symbol::OpenBrace)?;
     let locals = locals(alloc, tokens)?;
     let registers = registers(alloc, tokens)?;
-    let blocks = blocks(alloc, tokens)?;
+    let blocks = blocks(alloc, tokens, profile)?;
     tokens.fixed(Symbol::CloseBrace)?;
     Ok(Function {
         name,
@@ -48,15 +49,15 @@ fn begins_function(tokens: &Cursor<'_>) -> bool
 }
 
 #[tactic(auto, using(token_law::proofs::Turns::goes_on, token_law::proofs::Turns::stops, token_law::proofs::Turns::fails, token_law::proofs::Turns::ends))]
-fn functions(alloc: Global, tokens: &mut Cursor<'_>) -> Result<Functions, Fault>
-    ensures { Reads (read.many spec.begins_function spec.function [] tokens.old) result tokens.new }
+fn functions(alloc: Global, tokens: &mut Cursor<'_>, profile: u8) -> Result<Functions, Fault>
+    ensures { Reads (read.many spec.begins_function (spec.function profile) [] tokens.old) result tokens.new }
 {
     let mut found = Functions::new(alloc);
     for _turn in 0..tokens.left() {
         if !begins_function(tokens) {
             return Ok(found);
         }
-        found.push(function(alloc, tokens)?)?;
+        found.push(function(alloc, tokens, profile)?)?;
     }
     Ok(found)
 }
@@ -66,13 +67,14 @@ fn program(alloc: Global, tokens: &mut Cursor<'_>) -> Result<Program, Fault>
     ensures { Reads (spec.program tokens.old) result tokens.new }
 {
     tokens.fixed(Symbol::Gimple)?;
-    tokens.one()?;
+    let profile = tokens.profile()?;
     tokens.fixed(Symbol::Semi)?;
     let structs = structs(alloc, tokens)?;
     let globals = globals(alloc, tokens)?;
-    let functions = functions(alloc, tokens)?;
+    let functions = functions(alloc, tokens, profile)?;
     tokens.end()?;
     Ok(Program {
+        profile,
         structs,
         globals,
         functions,

@@ -1,5 +1,5 @@
 -- The canonical text lexes to its tokens, whatever follows.
-use Rattle.std.proofs.Common.{◌≡◌, ℕ, zero, suc, ◌<◌, ◌^◌, Bool, true, false, List, [], ◌∷◌, ◌++◌, Option, Some, None, refl, sym, subst, append_assoc}
+use Rattle.std.proofs.Common.{◌≡◌, ℕ, zero, suc, ◌<◌, ◌^◌, Bool, true, false, List, [], ◌∷◌, ◌++◌, Option, Some, None, refl, sym, subst, append_assoc, lit<, inl, inr}
 use Rattle.std.specs.Prelude.{codes, ℤ, pos, negsuc}
 use Rattle.std.specs.List.{flat_map}
 use Rattle.std.specs.Fmt.{decimal, signed_decimal}
@@ -15,8 +15,9 @@ use Rattle.gimple_ir.specs.declared.scalar.Cmp.{Cmp}
 use Rattle.gimple_ir.specs.declared.scalar.Cmp.TheVariants as cmp
 use Rattle.gimple_ir.specs.declared.scalar.Scalar.{Scalar}
 use Rattle.gimple_ir.specs.declared.scalar.Scalar.TheVariants as kind
+use Rattle.gimple_ir.specs.declared.statement.Signature.{Signature}
 use Rattle.gimple_ir.specs.declared.statement.Stmt.{Stmt}
-use Rattle.gimple_ir.specs.declared.statement.Stmt.TheVariants.{Copy, Arith, Compare, Convert, Load, Store, Call, Get, Put, Abort}
+use Rattle.gimple_ir.specs.declared.statement.Stmt.TheVariants.{Copy, Arith, Compare, Convert, Load, Store, Call, Indirect, Get, Put, Abort}
 use Rattle.gimple_ir.specs.declared.block.Case.{Case}
 use Rattle.gimple_ir.specs.declared.block.End.{End}
 use Rattle.gimple_ir.specs.declared.block.End.TheVariants.{Goto, If, Switch, Return}
@@ -31,12 +32,14 @@ use Rattle.gimple_ir.specs.declared.program.Function.{Function}
 use Rattle.gimple_ir.specs.declared.program.Program.{Program}
 use Rattle.gimple_tokens.specs.declared.token.Symbol.TheVariants as s
 use Rattle.gimple_tokens.specs.declared.token.Token.TheVariants as tok
-use Rattle.gimple_tokens.specs.Lexing.{Bytes, goes_on_name, same, token_at, Lexes, IsNameText}
+use Rattle.gimple_ir.specs.Names.{Bytes, goes_on_name, IsNameText}
+use Rattle.gimple_tokens.specs.Lexing.{keyword, token_at, Lexes}
 use Rattle.gimple_tokens.proofs.Pieces.{Stops, stops_digit, name_lexes, keyword_lexes, number_lexes}
 use Rattle.token_law.specs.Reading.{Tokens}
 use Rattle.gimple_grammar.specs.Grammar.{scalar_symbol, op_symbol, cmp_symbol, base_tokens, target_tokens, goto_tokens, shape_tokens, length_tokens, decl_tokens, const_tokens}
-use Rattle.gimple_text.specs.Canon.{scalar_text, offset_text, operand_text, op_text, cmp_text, more_text, separated_text, base_text, mem_text, target_text, goto_text, branches_text, simple_text, statement_text, case_text, end_text, block_text, shape_text, length_text, decl_text, field_text, struct_text, const_text, items_text, global_text, result_text, register_text, register_line, local_text, function_text, canon, AllOf, IsSpellableNumber, IsSpellableOperand, IsSpellableItem, IsSpellableBase, IsSpellablePlace, IsSpellableStmt, IsSpellableCase, IsSpellableEnd, IsSpellableBlock, IsSpellableShape, IsSpellableLength, IsSpellableDecl, IsSpellableStruct, IsSpellableGlobal, IsSpellableRegister, IsSpellableFunction, IsSpellable}
-use Rattle.gimple_text.proofs.CanonTokens.{signed_tokens, offset_tokens, operand_tokens, more_tokens, separated_tokens, access_tokens, simple_tokens, statement_tokens, case_tokens, end_tokens, block_tokens, field_tokens, struct_tokens, items_tokens, global_tokens, register_tokens, declared_tokens, local_tokens, result_token, function_tokens, program_tokens}
+use Rattle.gimple_ir.specs.Spellable.{AllOf, IsSpellableNumber, IsSpellableOperand, IsSpellableItem, IsSpellableBase, IsSpellablePlace, IsProfile, IsSpellableStmt, IsSpellableCase, IsSpellableEnd, IsSpellableBlock, IsSpellableShape, IsSpellableLength, IsSpellableDecl, IsSpellableStruct, IsSpellableGlobal, IsSpellableRegister, IsSpellableFunction, IsSpellable}
+use Rattle.gimple_text.specs.Canon.{scalar_text, offset_text, operand_text, op_text, cmp_text, more_text, separated_text, base_text, mem_text, target_text, goto_text, signature_text, branches_text, simple_text, statement_text, case_text, end_text, block_text, shape_text, length_text, decl_text, field_text, struct_text, const_text, items_text, global_text, result_text, header_text, register_text, register_line, local_text, function_text, canon}
+use Rattle.gimple_text.proofs.CanonTokens.{signed_tokens, offset_tokens, operand_tokens, more_tokens, separated_tokens, access_tokens, result_token, scalar_tokens, signature_tokens, simple_tokens, statement_tokens, case_tokens, end_tokens, block_tokens, field_tokens, struct_tokens, items_tokens, global_tokens, register_tokens, declared_tokens, local_tokens, function_tokens, program_tokens}
 
 recut : (bs cs : Bytes) (ts us : Tokens) → bs ≡ cs → ts ≡ us → Lexes cs us → Lexes bs ts
 recut bs cs ts us e f h = subst (λ z. Lexes z ts) (sym e) (subst (λ z. Lexes cs z) (sym f) h)
@@ -80,7 +83,7 @@ module _ {A : Type 0} (text : A → Bytes) (tokens : A → Tokens) (ok : A → T
 -- ---- words and operands
 
 scalar_lexes : (k : Scalar) (rest : Bytes) (ts : Tokens) → Stops goes_on_name rest → Lexes rest ts → Lexes (scalar_text k ++ rest) (tok.Fixed (scalar_symbol k) ∷ ts)
-unfolding same
+unfolding keyword
 scalar_lexes kind.I8 rest ts stop l = keyword_lexes 105 (codes "8") s.I8 rest ts refl refl (refl, tt) stop l
 scalar_lexes kind.I16 rest ts stop l = keyword_lexes 105 (codes "16") s.I16 rest ts refl refl (refl, (refl, tt)) stop l
 scalar_lexes kind.I32 rest ts stop l = keyword_lexes 105 (codes "32") s.I32 rest ts refl refl (refl, (refl, tt)) stop l
@@ -111,7 +114,7 @@ address_lexes x z rest ts h k stop l =
     ((x ++ offset_text z) ++ rest, refl, recut ((x ++ offset_text z) ++ rest) (x ++ (offset_text z ++ rest)) (tok.Name x ∷ (offset_tokens z ++ ts)) (tok.Name x ∷ (offset_tokens z ++ ts)) (append_assoc x (offset_text z) rest) refl name)
 
 operand_lexes : (o : Operand) (rest : Bytes) (ts : Tokens) → IsSpellableOperand o → Stops goes_on_name rest → Lexes rest ts → Lexes (operand_text o ++ rest) (operand_tokens o ++ ts)
-unfolding same
+unfolding keyword
 operand_lexes (Reg x) rest ts h stop l = name_lexes x rest ts h stop l
 operand_lexes (Number z) rest ts h stop l = signed_lexes z rest ts h stop l
 operand_lexes Null rest ts h stop l = keyword_lexes 110 (codes "ull") s.Null rest ts refl refl (refl, (refl, (refl, tt))) stop l
@@ -147,7 +150,7 @@ base_lexes (base.Reg x) rest ts h stop l = name_lexes x rest ts h stop l
 base_lexes (base.Variable x) rest ts h stop l = (x ++ rest, refl, name_lexes x rest ts h stop l)
 
 mem_lexes : (k : Scalar) (p : Place) (rest : Bytes) (ts : Tokens) → IsSpellablePlace p → Lexes rest ts → Lexes (mem_text k p ++ rest) (access_tokens k p ++ ts)
-unfolding same
+unfolding keyword
 mem_lexes k p rest ts h l =
     let b1 : Bytes = offset_text p.offset ++ (93 ∷ rest) in
     let t1 : Tokens = offset_tokens p.offset ++ (tok.Fixed s.CloseBracket ∷ ts) in
@@ -214,25 +217,53 @@ call_lexes f xs rest ts h k l =
     let e2 = operands_lex xs (codes ")" ++ rest) (tok.Fixed s.Close ∷ ts) k refl e1 in
     name_lexes f (codes " (" ++ (separated_text operand_text xs ++ (codes ")" ++ rest))) (tok.Fixed s.Open ∷ (separated_tokens operand_tokens xs ++ tok.Fixed s.Close ∷ ts)) h refl (separated_text operand_text xs ++ (codes ")" ++ rest), refl, e2)
 
-simple_lexes : (b : Stmt) (rest : Bytes) (ts : Tokens) → IsSpellableStmt b → Stops goes_on_name rest → Lexes rest ts → Lexes (simple_text b ++ rest) (simple_tokens b ++ ts)
-unfolding same
-simple_lexes (Copy x from) rest ts h stop l =
+result_lexes : (o : Option Scalar) (rest : Bytes) (ts : Tokens) → Lexes rest ts → Lexes (result_text o ++ (32 ∷ rest)) (result_token o ∷ ts)
+unfolding keyword
+result_lexes None rest ts l = (32 ∷ rest, refl, l)
+result_lexes (Some k) rest ts l = scalar_lexes k (32 ∷ rest) ts refl l
+
+less_result : (o : Option Scalar) (rest : Bytes) (ts : Tokens) → Lexes (result_text o ++ rest) ts → Lexes (60 ∷ (result_text o ++ rest)) (tok.Fixed s.Less ∷ ts)
+less_result None rest ts l = (result_text None ++ rest, refl, l)
+less_result (Some k) rest ts l = less_lexes k rest ts l
+
+no_condition : (xs : List Scalar) → AllOf (λ k. Unit {0}) xs
+no_condition [] = tt
+no_condition (x ∷ xs) = (tt, no_condition xs)
+
+signature_lexes : (g : Signature) (rest : Bytes) (ts : Tokens) → Lexes rest ts → Lexes (signature_text g ++ rest) (tok.Fixed s.Star ∷ (signature_tokens g ++ ts))
+unfolding signature_text
+signature_lexes g rest ts l =
+    let b1 : Bytes = 41 ∷ 62 ∷ 32 ∷ rest in
+    let t1 : Tokens = tok.Fixed s.Close ∷ tok.Fixed s.Greater ∷ ts in
+    let k1 : Lexes b1 t1 = (62 ∷ 32 ∷ rest, refl, (32 ∷ rest, refl, l)) in
+    let k2 = separated_lex scalar_text scalar_tokens (λ k. Unit {0}) (λ k rest ts h stop l. scalar_lexes k rest ts stop l) g.params b1 t1 (no_condition g.params) refl k1 in
+    let b2 : Bytes = separated_text scalar_text g.params ++ b1 in
+    let t2 : Tokens = separated_tokens scalar_tokens g.params ++ t1 in
+    let k3 = result_lexes g.result (40 ∷ b2) (tok.Fixed s.Open ∷ t2) (b2, refl, k2) in
+    let k4 = less_result g.result (32 ∷ 40 ∷ b2) (result_token g.result ∷ tok.Fixed s.Open ∷ t2) k3 in
+    let b3 : Bytes = 60 ∷ (result_text g.result ++ (32 ∷ 40 ∷ b2)) in
+    recut (signature_text g ++ rest) (42 ∷ b3) (tok.Fixed s.Star ∷ (signature_tokens g ++ ts)) (tok.Fixed s.Star ∷ tok.Fixed s.Less ∷ result_token g.result ∷ tok.Fixed s.Open ∷ t2) (simp append_assoc) (simp append_assoc)
+    (b3, refl, k4)
+
+simple_lexes : (profile : ℕ) (b : Stmt) (rest : Bytes) (ts : Tokens) → IsSpellableStmt profile b → Stops goes_on_name rest → Lexes rest ts → Lexes (simple_text b ++ rest) (simple_tokens b ++ ts)
+unfolding keyword
+simple_lexes profile (Copy x from) rest ts h stop l =
     recut (simple_text (Copy x from) ++ rest) (x ++ (codes " = " ++ (operand_text from ++ rest)))
     (simple_tokens (Copy x from) ++ ts) (tok.Name x ∷ tok.Fixed s.Assign ∷ (operand_tokens from ++ ts)) (simp append_assoc) refl
     (assign_lexes x (operand_text from ++ rest) (operand_tokens from ++ ts) h.0 (operand_lexes from rest ts h.1 stop l))
-simple_lexes (Arith x a o c) rest ts h stop l =
+simple_lexes profile (Arith x a o c) rest ts h stop l =
     recut (simple_text (Arith x a o c) ++ rest) (x ++ (codes " = " ++ (operand_text a ++ (op_text o ++ (operand_text c ++ rest)))))
     (simple_tokens (Arith x a o c) ++ ts) (tok.Name x ∷ tok.Fixed s.Assign ∷ (operand_tokens a ++ (tok.Fixed (op_symbol o) ∷ (operand_tokens c ++ ts)))) (simp append_assoc) (simp append_assoc)
     (assign_lexes x (operand_text a ++ (op_text o ++ (operand_text c ++ rest))) (operand_tokens a ++ (tok.Fixed (op_symbol o) ∷ (operand_tokens c ++ ts))) h.0
     (operand_lexes a (op_text o ++ (operand_text c ++ rest)) (tok.Fixed (op_symbol o) ∷ (operand_tokens c ++ ts)) h.1 (op_stops o (operand_text c ++ rest))
     (op_lexes o (operand_text c ++ rest) (operand_tokens c ++ ts) (operand_lexes c rest ts h.2 stop l))))
-simple_lexes (Compare x a o c) rest ts h stop l =
+simple_lexes profile (Compare x a o c) rest ts h stop l =
     recut (simple_text (Compare x a o c) ++ rest) (x ++ (codes " = " ++ (operand_text a ++ (cmp_text o ++ (operand_text c ++ rest)))))
     (simple_tokens (Compare x a o c) ++ ts) (tok.Name x ∷ tok.Fixed s.Assign ∷ (operand_tokens a ++ (tok.Fixed (cmp_symbol o) ∷ (operand_tokens c ++ ts)))) (simp append_assoc) (simp append_assoc)
     (assign_lexes x (operand_text a ++ (cmp_text o ++ (operand_text c ++ rest))) (operand_tokens a ++ (tok.Fixed (cmp_symbol o) ∷ (operand_tokens c ++ ts))) h.0
     (operand_lexes a (cmp_text o ++ (operand_text c ++ rest)) (tok.Fixed (cmp_symbol o) ∷ (operand_tokens c ++ ts)) h.1 (cmp_stops o (operand_text c ++ rest))
     (cmp_lexes o (operand_text c ++ rest) (operand_tokens c ++ ts) (operand_lexes c rest ts h.2 stop l))))
-simple_lexes (Convert x k from) rest ts h stop l =
+simple_lexes profile (Convert x k from) rest ts h stop l =
     let b1 : Bytes = operand_text from ++ rest in
     let t1 : Tokens = operand_tokens from ++ ts in
     let k1 : Lexes (41 ∷ 32 ∷ b1) (tok.Fixed s.Close ∷ t1) = (32 ∷ b1, refl, operand_lexes from rest ts h.1 stop l) in
@@ -241,42 +272,54 @@ simple_lexes (Convert x k from) rest ts h stop l =
     let t2 : Tokens = tok.Fixed (scalar_symbol k) ∷ tok.Fixed s.Close ∷ t1 in
     recut (simple_text (Convert x k from) ++ rest) (x ++ (codes " = " ++ (40 ∷ b2))) (simple_tokens (Convert x k from) ++ ts) (tok.Name x ∷ tok.Fixed s.Assign ∷ tok.Fixed s.Open ∷ t2) (simp append_assoc) refl
     (assign_lexes x (40 ∷ b2) (tok.Fixed s.Open ∷ t2) h.0 (b2, refl, k2))
-simple_lexes (Load x k place) rest ts h stop l =
+simple_lexes profile (Load x k place) rest ts h stop l =
     recut (simple_text (Load x k place) ++ rest) (x ++ (codes " = " ++ (mem_text k place ++ rest))) (simple_tokens (Load x k place) ++ ts) (tok.Name x ∷ tok.Fixed s.Assign ∷ (access_tokens k place ++ ts)) (simp append_assoc) refl
     (assign_lexes x (mem_text k place ++ rest) (access_tokens k place ++ ts) h.0 (mem_lexes k place rest ts h.1 l))
-simple_lexes (Store k place from) rest ts h stop l =
+simple_lexes profile (Store k place from) rest ts h stop l =
     let b1 : Bytes = codes " = " ++ (operand_text from ++ rest) in
     let t1 : Tokens = tok.Fixed s.Assign ∷ (operand_tokens from ++ ts) in
     let k1 : Lexes b1 t1 = (32 ∷ (operand_text from ++ rest), refl, operand_lexes from rest ts h.1 stop l) in
     recut (simple_text (Store k place from) ++ rest) (mem_text k place ++ b1) (simple_tokens (Store k place from) ++ ts) (access_tokens k place ++ t1) (simp append_assoc) (simp append_assoc)
     (mem_lexes k place b1 t1 h.0 k1)
-simple_lexes (Call None f xs) rest ts h stop l =
+simple_lexes profile (Call None f xs) rest ts h stop l =
     recut (simple_text (Call None f xs) ++ rest) (f ++ (codes " (" ++ (separated_text operand_text xs ++ (codes ")" ++ rest))))
     (simple_tokens (Call None f xs) ++ ts) (tok.Name f ∷ tok.Fixed s.Open ∷ (separated_tokens operand_tokens xs ++ tok.Fixed s.Close ∷ ts)) (simp append_assoc) (simp append_assoc)
     (call_lexes f xs rest ts h.1 h.2 l)
-simple_lexes (Call (Some x) f xs) rest ts h stop l =
+simple_lexes profile (Call (Some x) f xs) rest ts h stop l =
     recut (simple_text (Call (Some x) f xs) ++ rest) (x ++ (codes " = " ++ (f ++ (codes " (" ++ (separated_text operand_text xs ++ (codes ")" ++ rest))))))
     (simple_tokens (Call (Some x) f xs) ++ ts) (tok.Name x ∷ tok.Fixed s.Assign ∷ tok.Name f ∷ tok.Fixed s.Open ∷ (separated_tokens operand_tokens xs ++ tok.Fixed s.Close ∷ ts)) (simp append_assoc) (simp append_assoc)
     (assign_lexes x (f ++ (codes " (" ++ (separated_text operand_text xs ++ (codes ")" ++ rest)))) (tok.Name f ∷ tok.Fixed s.Open ∷ (separated_tokens operand_tokens xs ++ tok.Fixed s.Close ∷ ts)) h.0 (call_lexes f xs rest ts h.1 h.2 l))
-simple_lexes (Get x) rest ts h stop l =
+simple_lexes profile (Indirect None g x xs) rest ts h stop l =
+    let b1 : Bytes = x ++ (codes " (" ++ (separated_text operand_text xs ++ (codes ")" ++ rest))) in
+    let t1 : Tokens = tok.Name x ∷ tok.Fixed s.Open ∷ (separated_tokens operand_tokens xs ++ tok.Fixed s.Close ∷ ts) in
+    recut (simple_text (Indirect None g x xs) ++ rest) (signature_text g ++ b1)
+    (simple_tokens (Indirect None g x xs) ++ ts) (tok.Fixed s.Star ∷ (signature_tokens g ++ t1)) (simp append_assoc) (simp append_assoc)
+    (signature_lexes g b1 t1 (call_lexes x xs rest ts h.1 h.2 l))
+simple_lexes profile (Indirect (Some x) g y xs) rest ts h stop l =
+    let b1 : Bytes = y ++ (codes " (" ++ (separated_text operand_text xs ++ (codes ")" ++ rest))) in
+    let t1 : Tokens = tok.Name y ∷ tok.Fixed s.Open ∷ (separated_tokens operand_tokens xs ++ tok.Fixed s.Close ∷ ts) in
+    recut (simple_text (Indirect (Some x) g y xs) ++ rest) (x ++ (codes " = " ++ (signature_text g ++ b1)))
+    (simple_tokens (Indirect (Some x) g y xs) ++ ts) (tok.Name x ∷ tok.Fixed s.Assign ∷ tok.Fixed s.Star ∷ (signature_tokens g ++ t1)) (simp append_assoc) (simp append_assoc)
+    (assign_lexes x (signature_text g ++ b1) (tok.Fixed s.Star ∷ (signature_tokens g ++ t1)) h.0 (signature_lexes g b1 t1 (call_lexes y xs rest ts h.1 h.2 l)))
+simple_lexes profile (Get x) rest ts h stop l =
     recut (simple_text (Get x) ++ rest) (x ++ (codes " = " ++ (codes "getint ()" ++ rest))) (simple_tokens (Get x) ++ ts) (simple_tokens (Get x) ++ ts) (simp append_assoc) refl
     (assign_lexes x (codes "getint ()" ++ rest) (tok.Fixed s.Getint ∷ tok.Fixed s.Open ∷ tok.Fixed s.Close ∷ ts) h (32 ∷ 40 ∷ 41 ∷ rest, refl, (41 ∷ rest, refl, (rest, refl, l))))
-simple_lexes (Put from) rest ts h stop l =
+simple_lexes profile (Put from) rest ts h stop l =
     recut (simple_text (Put from) ++ rest) (codes "putint (" ++ (operand_text from ++ (codes ")" ++ rest)))
     (simple_tokens (Put from) ++ ts) (tok.Fixed s.Putint ∷ tok.Fixed s.Open ∷ (operand_tokens from ++ tok.Fixed s.Close ∷ ts)) (simp append_assoc) (simp append_assoc)
     (codes " (" ++ (operand_text from ++ (codes ")" ++ rest)), refl, (operand_text from ++ (codes ")" ++ rest), refl, operand_lexes from (codes ")" ++ rest) (tok.Fixed s.Close ∷ ts) h refl (rest, refl, l)))
-simple_lexes Abort rest ts h stop l = (32 ∷ 40 ∷ 41 ∷ rest, refl, (41 ∷ rest, refl, (rest, refl, l)))
+simple_lexes profile Abort rest ts h stop l = (32 ∷ 40 ∷ 41 ∷ rest, refl, (41 ∷ rest, refl, (rest, refl, l)))
 
-statement_lexes : (b : Stmt) (rest : Bytes) (ts : Tokens) → IsSpellableStmt b → Lexes rest ts → Lexes (statement_text b ++ rest) (statement_tokens b ++ ts)
-statement_lexes b rest ts h l =
+statement_lexes : (profile : ℕ) (b : Stmt) (rest : Bytes) (ts : Tokens) → IsSpellableStmt profile b → Lexes rest ts → Lexes (statement_text b ++ rest) (statement_tokens b ++ ts)
+statement_lexes profile b rest ts h l =
     recut (statement_text b ++ rest) (codes "    " ++ (simple_text b ++ (59 ∷ 10 ∷ rest))) (statement_tokens b ++ ts) (simple_tokens b ++ tok.Fixed s.Semi ∷ ts) (simp append_assoc) (simp append_assoc)
-    (simple_lexes b (59 ∷ 10 ∷ rest) (tok.Fixed s.Semi ∷ ts) h refl (10 ∷ rest, refl, l))
+    (simple_lexes profile b (59 ∷ 10 ∷ rest) (tok.Fixed s.Semi ∷ ts) h refl (10 ∷ rest, refl, l))
 
 -- ---- ends and blocks
 
 -- the byte that follows makes no mark of two bytes with the last one
 target_lexes : (n : ℕ) (rest : Bytes) (ts : Tokens) → n < 2 ^ 64 → token_at (62 ∷ rest) ≡ Some (tok.Fixed s.Greater, rest) → Lexes rest ts → Lexes (target_text n ++ rest) (target_tokens n ++ ts)
-unfolding same
+unfolding keyword
 target_lexes n rest ts h apart l =
     let number = number_lexes n (62 ∷ rest) (tok.Fixed s.Greater ∷ ts) h refl (rest, apart, l) in
     let digits : Bytes = (decimal n ++ 62 ∷ []) ++ rest in (
@@ -286,7 +329,7 @@ target_lexes n rest ts h apart l =
     )
 
 goto_lexes : (n : ℕ) (rest : Bytes) (ts : Tokens) → n < 2 ^ 64 → Lexes rest ts → Lexes (goto_text n ++ rest) (goto_tokens n ++ ts)
-unfolding same
+unfolding keyword
 goto_lexes n rest ts h l =
     let target = target_lexes n (59 ∷ rest) (tok.Fixed s.Semi ∷ ts) h refl (rest, refl, l) in (
       32 ∷ ((target_text n ++ 59 ∷ []) ++ rest),
@@ -295,7 +338,7 @@ goto_lexes n rest ts h l =
     )
 
 case_lexes : (c : Case) (rest : Bytes) (ts : Tokens) → IsSpellableCase c → Lexes rest ts → Lexes (case_text c ++ rest) (case_tokens c ++ ts)
-unfolding same
+unfolding keyword
 case_lexes c rest ts h l =
     let k1 = target_lexes c.target (59 ∷ 32 ∷ rest) (tok.Fixed s.Semi ∷ ts) h.1 refl (32 ∷ rest, refl, l) in
     let b1 : Bytes = target_text c.target ++ (59 ∷ 32 ∷ rest) in
@@ -307,7 +350,7 @@ case_lexes c rest ts h l =
     recut (case_text c ++ rest) (codes "case " ++ b3) (case_tokens c ++ ts) (tok.Fixed s.Case ∷ t3) (simp append_assoc) (simp append_assoc) (32 ∷ b3, refl, k3)
 
 switch_lexes : (on : Operand) (cases : List Case) (other : ℕ) (rest : Bytes) (ts : Tokens) → IsSpellableOperand on → AllOf IsSpellableCase cases → other < 2 ^ 64 → Lexes rest ts → Lexes (end_text (Switch on cases other) ++ rest) (end_tokens (Switch on cases other) ++ ts)
-unfolding same
+unfolding keyword
 switch_lexes on cases other rest ts ho hc hn l =
     let k0 : Lexes (59 ∷ 32 ∷ 125 ∷ rest) (tok.Fixed s.Semi ∷ tok.Fixed s.CloseBrace ∷ ts) = (32 ∷ 125 ∷ rest, refl, (rest, refl, l)) in
     let k1 = target_lexes other (59 ∷ 32 ∷ 125 ∷ rest) (tok.Fixed s.Semi ∷ tok.Fixed s.CloseBrace ∷ ts) hn refl k0 in
@@ -326,7 +369,7 @@ switch_lexes on cases other rest ts ho hc hn l =
     recut (end_text (Switch on cases other) ++ rest) (codes "switch (" ++ b5) (end_tokens (Switch on cases other) ++ ts) (tok.Fixed s.Switch ∷ tok.Fixed s.Open ∷ t5) (simp append_assoc) (simp append_assoc) (32 ∷ 40 ∷ b5, refl, (b5, refl, k5))
 
 end_lexes : (d : End) (rest : Bytes) (ts : Tokens) → IsSpellableEnd d → Lexes rest ts → Lexes (end_text d ++ rest) (end_tokens d ++ ts)
-unfolding same branches_text
+unfolding keyword branches_text
 end_lexes (Goto n) rest ts h l = goto_lexes n rest ts h l
 end_lexes (If a c b first second) rest ts h l =
     let k1 = goto_lexes second rest ts h.3 l in
@@ -351,12 +394,12 @@ end_lexes (Return (Some o)) rest ts h l =
     recut (end_text (Return (Some o)) ++ rest) (codes "return " ++ (operand_text o ++ (59 ∷ rest))) (end_tokens (Return (Some o)) ++ ts) (tok.Fixed s.Return ∷ (operand_tokens o ++ tok.Fixed s.Semi ∷ ts)) (simp append_assoc) (simp append_assoc)
     (32 ∷ (operand_text o ++ (59 ∷ rest)), refl, operand_lexes o (59 ∷ rest) (tok.Fixed s.Semi ∷ ts) h refl (rest, refl, l))
 
-block_lexes : (b : Block) (rest : Bytes) (ts : Tokens) → IsSpellableBlock b → Lexes rest ts → Lexes (block_text b ++ rest) (block_tokens b ++ ts)
-block_lexes b rest ts h l =
+block_lexes : (profile : ℕ) (b : Block) (rest : Bytes) (ts : Tokens) → IsSpellableBlock profile b → Lexes rest ts → Lexes (block_text b ++ rest) (block_tokens b ++ ts)
+block_lexes profile b rest ts h l =
     let k1 = end_lexes b.end (10 ∷ rest) ts h.2 l in
     let b1 : Bytes = codes "    " ++ (end_text b.end ++ (10 ∷ rest)) in
     let t1 : Tokens = end_tokens b.end ++ ts in
-    let k2 = lines_lex statement_text statement_tokens IsSpellableStmt statement_lexes b.body b1 t1 h.1 k1 in
+    let k2 = lines_lex statement_text statement_tokens (IsSpellableStmt profile) (statement_lexes profile) b.body b1 t1 h.1 k1 in
     let b2 : Bytes = flat_map statement_text b.body ++ b1 in
     let t2 : Tokens = flat_map statement_tokens b.body ++ t1 in
     let k3 = target_lexes b.label (58 ∷ 10 ∷ b2) (tok.Fixed s.Colon ∷ t2) h.0 refl (10 ∷ b2, refl, k2) in
@@ -365,7 +408,7 @@ block_lexes b rest ts h l =
 -- ---- declarations
 
 shape_lexes : (f : Shape) (rest : Bytes) (ts : Tokens) → IsSpellableShape f → Lexes rest ts → Lexes (shape_text f ++ (32 ∷ rest)) (shape_tokens f ++ ts)
-unfolding same
+unfolding keyword
 shape_lexes (Plain k) rest ts h l = scalar_lexes k (32 ∷ rest) ts refl l
 shape_lexes (Named x) rest ts h l = (32 ∷ (x ++ (32 ∷ rest)), refl, name_lexes x (32 ∷ rest) ts h refl l)
 
@@ -394,7 +437,7 @@ field_lexes d rest ts h l =
     (decl_lexes d (59 ∷ 10 ∷ rest) (tok.Fixed s.Semi ∷ ts) h refl (10 ∷ rest, refl, l))
 
 struct_lexes : (x : StructDef) (rest : Bytes) (ts : Tokens) → IsSpellableStruct x → Lexes rest ts → Lexes (struct_text x ++ rest) (struct_tokens x ++ ts)
-unfolding same
+unfolding keyword
 struct_lexes x rest ts h l =
     let b0 : Bytes = 125 ∷ 59 ∷ 10 ∷ rest in
     let t0 : Tokens = tok.Fixed s.CloseBrace ∷ tok.Fixed s.Semi ∷ ts in
@@ -407,7 +450,7 @@ struct_lexes x rest ts h l =
     recut (struct_text x ++ rest) (codes "struct " ++ b2) (struct_tokens x ++ ts) (tok.Fixed s.Struct ∷ tok.Name x.name ∷ tok.Fixed s.OpenBrace ∷ t1) (simp append_assoc) (simp append_assoc) (32 ∷ b2, refl, k2)
 
 const_lexes : (b : Bool) (rest : Bytes) (ts : Tokens) → Lexes rest ts → Lexes (const_text b ++ rest) (const_tokens b ++ ts)
-unfolding same
+unfolding keyword
 const_lexes false rest ts l = l
 const_lexes true rest ts l = (32 ∷ rest, refl, l)
 
@@ -424,7 +467,7 @@ items_stop [] rest stop = stop
 items_stop (x ∷ xs) rest stop = refl
 
 global_lexes : (g : Global) (rest : Bytes) (ts : Tokens) → IsSpellableGlobal g → Lexes rest ts → Lexes (global_text g ++ rest) (global_tokens g ++ ts)
-unfolding same
+unfolding keyword
 global_lexes g rest ts h l =
     let b0 : Bytes = 59 ∷ 10 ∷ rest in
     let t0 : Tokens = tok.Fixed s.Semi ∷ ts in
@@ -452,24 +495,19 @@ register_line_lexes r rest ts h l =
     (register_lexes r (59 ∷ 10 ∷ rest) (tok.Fixed s.Semi ∷ ts) h refl (10 ∷ rest, refl, l))
 
 local_lexes : (d : Decl) (rest : Bytes) (ts : Tokens) → IsSpellableDecl d → Lexes rest ts → Lexes (local_text d ++ rest) (local_tokens d ++ ts)
-unfolding same
+unfolding keyword
 local_lexes d rest ts h l =
     let k1 = decl_lexes d (59 ∷ 10 ∷ rest) (tok.Fixed s.Semi ∷ ts) h refl (10 ∷ rest, refl, l) in
     let b1 : Bytes = decl_text d ++ (59 ∷ 10 ∷ rest) in
     let t1 : Tokens = decl_tokens d ++ (tok.Fixed s.Semi ∷ ts) in
     recut (local_text d ++ rest) (codes "  local " ++ b1) (local_tokens d ++ ts) (tok.Fixed s.Local ∷ t1) (simp append_assoc) (simp append_assoc) (32 ∷ b1, refl, k1)
 
-result_lexes : (o : Option Scalar) (rest : Bytes) (ts : Tokens) → Lexes rest ts → Lexes (result_text o ++ (32 ∷ rest)) (result_token o ∷ ts)
-unfolding same
-result_lexes None rest ts l = (32 ∷ rest, refl, l)
-result_lexes (Some k) rest ts l = scalar_lexes k (32 ∷ rest) ts refl l
-
-function_lexes : (f : Function) (rest : Bytes) (ts : Tokens) → IsSpellableFunction f → Lexes rest ts → Lexes (function_text f ++ rest) (function_tokens f ++ ts)
-function_lexes f rest ts h l =
+function_lexes : (profile : ℕ) (f : Function) (rest : Bytes) (ts : Tokens) → IsSpellableFunction profile f → Lexes rest ts → Lexes (function_text f ++ rest) (function_tokens f ++ ts)
+function_lexes profile f rest ts h l =
     let b0 : Bytes = 125 ∷ 10 ∷ rest in
     let t0 : Tokens = tok.Fixed s.CloseBrace ∷ ts in
     let k0 : Lexes b0 t0 = (10 ∷ rest, refl, l) in
-    let k1 = lines_lex block_text block_tokens IsSpellableBlock block_lexes f.blocks b0 t0 h.blocks k0 in
+    let k1 = lines_lex block_text block_tokens (IsSpellableBlock profile) (block_lexes profile) f.blocks b0 t0 h.blocks k0 in
     let b1 : Bytes = flat_map block_text f.blocks ++ b0 in
     let t1 : Tokens = flat_map block_tokens f.blocks ++ t0 in
     let k2 = lines_lex register_line declared_tokens IsSpellableRegister register_line_lexes f.registers b1 t1 h.registers k1 in
@@ -488,10 +526,13 @@ function_lexes f rest ts h l =
     let k7 = result_lexes f.result (f.name ++ (32 ∷ 40 ∷ b5)) (tok.Name f.name ∷ tok.Fixed s.Open ∷ t5) k6 in
     recut (function_text f ++ rest) (result_text f.result ++ (32 ∷ (f.name ++ (32 ∷ 40 ∷ b5)))) (function_tokens f ++ ts) (result_token f.result ∷ tok.Name f.name ∷ tok.Fixed s.Open ∷ t5) (simp append_assoc) (simp append_assoc) k7
 
+profile_small : (n : ℕ) → IsProfile n → n < 2 ^ 64
+profile_small n h = elim h [ inl e ↦ rw e (lit< tt) | inr e ↦ rw e (lit< tt) ]
+
 pub canon_lexes : (p : Program) → IsSpellable p → Lexes (canon p) (program_tokens p)
-unfolding same canon
+unfolding keyword canon header_text
 canon_lexes p h =
-    let k1 = lines_lex function_text function_tokens IsSpellableFunction function_lexes p.functions [] [] h.functions refl in
+    let k1 = lines_lex function_text function_tokens (IsSpellableFunction p.profile) (function_lexes p.profile) p.functions [] [] h.functions refl in
     let b1 : Bytes = flat_map function_text p.functions in
     let t1 : Tokens = flat_map function_tokens p.functions in
     let k2 : Lexes b1 t1 = recut b1 (b1 ++ []) t1 (t1 ++ []) (sym (append-nil b1)) (sym (append-nil t1)) k1 in
@@ -500,4 +541,7 @@ canon_lexes p h =
     let t3 : Tokens = flat_map global_tokens p.globals ++ t1 in
     let k4 = lines_lex struct_text struct_tokens IsSpellableStruct struct_lexes p.structs b3 t3 h.structs k3 in
     let b4 : Bytes = flat_map struct_text p.structs ++ b3 in
-    (32 ∷ 49 ∷ 59 ∷ 10 ∷ b4, refl, (59 ∷ 10 ∷ b4, refl, (10 ∷ b4, refl, k4)))
+    let t4 : Tokens = flat_map struct_tokens p.structs ++ t3 in
+    let k5 = number_lexes p.profile (59 ∷ 10 ∷ b4) (tok.Fixed s.Semi ∷ t4) (profile_small p.profile h.profile) refl (10 ∷ b4, refl, k4) in
+    let b5 : Bytes = decimal p.profile ++ (59 ∷ 10 ∷ b4) in
+    recut (canon p) (codes "gimple " ++ b5) (program_tokens p) (tok.Fixed s.Gimple ∷ tok.Number p.profile ∷ tok.Fixed s.Semi ∷ t4) (simp append_assoc) refl (32 ∷ b5, refl, k5)

@@ -1,13 +1,14 @@
 -- The tokens of the canonical text spell the program.
-use Rattle.std.proofs.Common.{zero, suc, List, [], ◌∷◌, ◌++◌, Option, Some, None, refl, inl, inr}
+use Rattle.std.proofs.Common.{ℕ, zero, suc, List, [], ◌∷◌, ◌++◌, Option, Some, None, refl, inl, inr}
 use Rattle.std.specs.Prelude.{ℤ, pos, negsuc}
 use Rattle.std.specs.List.{flat_map}
 use Rattle.gimple_ir.specs.declared.operand.Operand.{Operand}
 use Rattle.gimple_ir.specs.declared.operand.Operand.TheVariants.{Reg, Number, Null, Address}
 use Rattle.gimple_ir.specs.declared.operand.Place.{Place}
 use Rattle.gimple_ir.specs.declared.scalar.Scalar.{Scalar}
+use Rattle.gimple_ir.specs.declared.statement.Signature.{Signature}
 use Rattle.gimple_ir.specs.declared.statement.Stmt.{Stmt}
-use Rattle.gimple_ir.specs.declared.statement.Stmt.TheVariants.{Copy, Arith, Compare, Convert, Load, Store, Call, Get, Put, Abort}
+use Rattle.gimple_ir.specs.declared.statement.Stmt.TheVariants.{Copy, Arith, Compare, Convert, Load, Store, Call, Indirect, Get, Put, Abort}
 use Rattle.gimple_ir.specs.declared.block.Case.{Case}
 use Rattle.gimple_ir.specs.declared.block.End.{End}
 use Rattle.gimple_ir.specs.declared.block.End.TheVariants.{Goto, If, Switch, Return}
@@ -22,9 +23,9 @@ use Rattle.gimple_tokens.specs.declared.token.Symbol.TheVariants as s
 use Rattle.gimple_tokens.specs.declared.token.Token.TheVariants as tok
 use Rattle.token_law.specs.Reading.{Tokens}
 use Rattle.token_law.specs.Languages.{IsMany, IsAfterComma, IsSeparated}
-use Rattle.gimple_grammar.specs.Grammar.{IsSigned, IsOffset, IsItem, IsOperand, IsArguments, IsPlace, IsSimple, IsStmt, IsCase, IsEnd, IsBlock, IsField, IsStruct, IsItems, IsGlobal, IsResult, IsRegister, IsDeclared, IsLocal, IsFunction, IsProgram}
-use Rattle.gimple_text.specs.Canon.{AllOf, IsSpellableOperand, IsSpellableItem, IsSpellableStmt, IsSpellableCase, IsSpellableEnd, IsSpellableBlock, IsSpellableDecl, IsSpellableStruct, IsSpellableGlobal, IsSpellableRegister, IsSpellableFunction, IsSpellable}
-use Rattle.gimple_text.proofs.CanonTokens.{signed_tokens, offset_tokens, operand_tokens, more_tokens, separated_tokens, place_tokens, simple_tokens, statement_tokens, case_tokens, end_tokens, block_tokens, field_tokens, struct_tokens, items_tokens, global_tokens, register_tokens, declared_tokens, local_tokens, result_token, function_tokens, program_tokens}
+use Rattle.gimple_grammar.specs.Grammar.{IsSigned, IsOffset, IsItem, IsOperand, IsArguments, IsPlace, IsResult, IsScalar, IsSignature, IsSimple, IsStmt, IsCase, IsEnd, IsBlock, IsField, IsStruct, IsItems, IsGlobal, IsRegister, IsDeclared, IsLocal, IsFunction, IsProgram}
+use Rattle.gimple_ir.specs.Spellable.{AllOf, IsSpellableOperand, IsSpellableItem, IsSpellableStmt, IsSpellableCase, IsSpellableEnd, IsSpellableBlock, IsSpellableDecl, IsSpellableStruct, IsSpellableGlobal, IsSpellableRegister, IsSpellableFunction, IsSpellable}
+use Rattle.gimple_text.proofs.CanonTokens.{signed_tokens, offset_tokens, operand_tokens, more_tokens, separated_tokens, place_tokens, result_token, scalar_tokens, signature_tokens, simple_tokens, statement_tokens, case_tokens, end_tokens, block_tokens, field_tokens, struct_tokens, items_tokens, global_tokens, register_tokens, declared_tokens, local_tokens, function_tokens, program_tokens}
 
 module _ {A : Type 0} (S : A → Tokens → Type 0) (tokens : A → Tokens) (ok : A → Type 0) (spelled : (x : A) → ok x → S x (tokens x)) where
   pub many_spelled : (xs : List A) → AllOf ok xs → IsMany S xs (flat_map tokens xs)
@@ -66,21 +67,40 @@ arguments_spelled xs h = (separated_tokens operand_tokens xs, separated_spelled 
 place_spelled : (p : Place) → IsPlace p (place_tokens p)
 place_spelled p = (offset_tokens p.offset, offset_spelled p.offset, refl)
 
-simple_spelled : (b : Stmt) → IsSpellableStmt b → IsSimple b (simple_tokens b)
-simple_spelled (Copy x from) h = (operand_tokens from, operand_spelled from h.1, refl)
-simple_spelled (Arith x l o r) h = (operand_tokens l, operand_tokens r, operand_spelled l h.1, operand_spelled r h.2, refl)
-simple_spelled (Compare x l c r) h = (operand_tokens l, operand_tokens r, operand_spelled l h.1, operand_spelled r h.2, refl)
-simple_spelled (Convert x k from) h = (operand_tokens from, operand_spelled from h.1, refl)
-simple_spelled (Load x k place) h = (place_tokens place, place_spelled place, refl)
-simple_spelled (Store k place from) h = (place_tokens place, operand_tokens from, place_spelled place, operand_spelled from h.1, refl)
-simple_spelled (Call None f xs) h = (tok.Fixed s.Open ∷ (separated_tokens operand_tokens xs ++ tok.Fixed s.Close ∷ []), arguments_spelled xs h.2, refl)
-simple_spelled (Call (Some x) f xs) h = (tok.Fixed s.Open ∷ (separated_tokens operand_tokens xs ++ tok.Fixed s.Close ∷ []), arguments_spelled xs h.2, refl)
-simple_spelled (Get x) h = refl
-simple_spelled (Put from) h = (operand_tokens from, operand_spelled from h, refl)
-simple_spelled Abort h = refl
+result_spelled : (o : Option Scalar) → IsResult o (result_token o ∷ [])
+result_spelled None = refl
+result_spelled (Some k) = refl
 
-statement_spelled : (b : Stmt) → IsSpellableStmt b → IsStmt b (statement_tokens b)
-statement_spelled b h = (simple_tokens b, simple_spelled b h, refl)
+no_condition : (xs : List Scalar) → AllOf (λ k. Unit {0}) xs
+no_condition [] = tt
+no_condition (x ∷ xs) = (tt, no_condition xs)
+
+signature_spelled : (g : Signature) → IsSignature g (signature_tokens g)
+signature_spelled g = (
+  result_token g.result ∷ [],
+  separated_tokens scalar_tokens g.params,
+  result_spelled g.result,
+  separated_spelled IsScalar scalar_tokens (λ k. Unit {0}) (λ k h. refl) g.params (no_condition g.params),
+  refl,
+)
+
+simple_spelled : (profile : ℕ) (b : Stmt) → IsSpellableStmt profile b → IsSimple profile b (simple_tokens b)
+simple_spelled profile (Copy x from) h = (operand_tokens from, operand_spelled from h.1, refl)
+simple_spelled profile (Arith x l o r) h = (operand_tokens l, operand_tokens r, operand_spelled l h.1, operand_spelled r h.2, refl)
+simple_spelled profile (Compare x l c r) h = (operand_tokens l, operand_tokens r, operand_spelled l h.1, operand_spelled r h.2, refl)
+simple_spelled profile (Convert x k from) h = (operand_tokens from, operand_spelled from h.1, refl)
+simple_spelled profile (Load x k place) h = (place_tokens place, place_spelled place, refl)
+simple_spelled profile (Store k place from) h = (place_tokens place, operand_tokens from, place_spelled place, operand_spelled from h.1, refl)
+simple_spelled profile (Call None f xs) h = (tok.Fixed s.Open ∷ (separated_tokens operand_tokens xs ++ tok.Fixed s.Close ∷ []), arguments_spelled xs h.2, refl)
+simple_spelled profile (Call (Some x) f xs) h = (tok.Fixed s.Open ∷ (separated_tokens operand_tokens xs ++ tok.Fixed s.Close ∷ []), arguments_spelled xs h.2, refl)
+simple_spelled profile (Indirect None g x xs) h = (signature_tokens g, tok.Fixed s.Open ∷ (separated_tokens operand_tokens xs ++ tok.Fixed s.Close ∷ []), signature_spelled g, arguments_spelled xs h.2, refl, h.3)
+simple_spelled profile (Indirect (Some x) g y xs) h = (signature_tokens g, tok.Fixed s.Open ∷ (separated_tokens operand_tokens xs ++ tok.Fixed s.Close ∷ []), signature_spelled g, arguments_spelled xs h.2, refl, h.3)
+simple_spelled profile (Get x) h = refl
+simple_spelled profile (Put from) h = (operand_tokens from, operand_spelled from h, refl)
+simple_spelled profile Abort h = refl
+
+statement_spelled : (profile : ℕ) (b : Stmt) → IsSpellableStmt profile b → IsStmt profile b (statement_tokens b)
+statement_spelled profile b h = (simple_tokens b, simple_spelled profile b h, refl)
 
 case_spelled : (c : Case) → IsSpellableCase c → IsCase c (case_tokens c)
 case_spelled c h = (signed_tokens c.value, signed_spelled c.value, refl)
@@ -92,8 +112,8 @@ end_spelled (Switch on cases other) h = (operand_tokens on, flat_map case_tokens
 end_spelled (Return None) h = refl
 end_spelled (Return (Some o)) h = (operand_tokens o, operand_spelled o h, refl)
 
-block_spelled : (b : Block) → IsSpellableBlock b → IsBlock b (block_tokens b)
-block_spelled b h = (flat_map statement_tokens b.body, end_tokens b.end, many_spelled IsStmt statement_tokens IsSpellableStmt statement_spelled b.body h.1, end_spelled b.end h.2, refl)
+block_spelled : (profile : ℕ) (b : Block) → IsSpellableBlock profile b → IsBlock profile b (block_tokens b)
+block_spelled profile b h = (flat_map statement_tokens b.body, end_tokens b.end, many_spelled (IsStmt profile) statement_tokens (IsSpellableStmt profile) (statement_spelled profile) b.body h.1, end_spelled b.end h.2, refl)
 
 field_spelled : (d : Decl) → IsSpellableDecl d → IsField d (field_tokens d)
 field_spelled d h = refl
@@ -108,10 +128,6 @@ items_spelled (x ∷ xs) h = (separated_tokens operand_tokens (x ∷ xs), separa
 global_spelled : (g : Global) → IsSpellableGlobal g → IsGlobal g (global_tokens g)
 global_spelled g h = (items_tokens g.items, items_spelled g.items h.1, refl)
 
-result_spelled : (o : Option Scalar) → IsResult o (result_token o ∷ [])
-result_spelled None = refl
-result_spelled (Some k) = refl
-
 register_spelled : (r : Register) → IsSpellableRegister r → IsRegister r (register_tokens r)
 register_spelled r h = refl
 
@@ -121,8 +137,8 @@ declared_spelled r h = refl
 local_spelled : (d : Decl) → IsSpellableDecl d → IsLocal d (local_tokens d)
 local_spelled d h = refl
 
-function_spelled : (f : Function) → IsSpellableFunction f → IsFunction f (function_tokens f)
-function_spelled f h = (
+function_spelled : (profile : ℕ) (f : Function) → IsSpellableFunction profile f → IsFunction profile f (function_tokens f)
+function_spelled profile f h = (
   result_token f.result ∷ [],
   separated_tokens register_tokens f.params,
   flat_map local_tokens f.locals,
@@ -132,7 +148,7 @@ function_spelled f h = (
   separated_spelled IsRegister register_tokens IsSpellableRegister register_spelled f.params h.params,
   many_spelled IsLocal local_tokens IsSpellableDecl local_spelled f.locals h.locals,
   many_spelled IsDeclared declared_tokens IsSpellableRegister declared_spelled f.registers h.registers,
-  many_spelled IsBlock block_tokens IsSpellableBlock block_spelled f.blocks h.blocks,
+  many_spelled (IsBlock profile) block_tokens (IsSpellableBlock profile) (block_spelled profile) f.blocks h.blocks,
   refl,
 )
 
@@ -143,6 +159,7 @@ program_spelled p h = (
   flat_map function_tokens p.functions,
   many_spelled IsStruct struct_tokens IsSpellableStruct struct_spelled p.structs h.structs,
   many_spelled IsGlobal global_tokens IsSpellableGlobal global_spelled p.globals h.globals,
-  many_spelled IsFunction function_tokens IsSpellableFunction function_spelled p.functions h.functions,
+  many_spelled (IsFunction p.profile) function_tokens (IsSpellableFunction p.profile) (function_spelled p.profile) p.functions h.functions,
   refl,
+  h.profile,
 )

@@ -5,8 +5,9 @@ use Rattle.gimple_ir.specs.declared.operand.Operand.{Operand}
 use Rattle.gimple_ir.specs.declared.operand.Operand.TheVariants.{Reg, Number, Null, Address}
 use Rattle.gimple_ir.specs.declared.operand.Place.{Place}
 use Rattle.gimple_ir.specs.declared.scalar.Scalar.{Scalar}
+use Rattle.gimple_ir.specs.declared.statement.Signature.{Signature}
 use Rattle.gimple_ir.specs.declared.statement.Stmt.{Stmt}
-use Rattle.gimple_ir.specs.declared.statement.Stmt.TheVariants.{Copy, Arith, Compare, Convert, Load, Store, Call, Get, Put, Abort}
+use Rattle.gimple_ir.specs.declared.statement.Stmt.TheVariants.{Copy, Arith, Compare, Convert, Load, Store, Call, Indirect, Get, Put, Abort}
 use Rattle.gimple_ir.specs.declared.block.Case.{Case}
 use Rattle.gimple_ir.specs.declared.block.End.{End}
 use Rattle.gimple_ir.specs.declared.block.End.TheVariants.{Goto, If, Switch, Return}
@@ -55,6 +56,16 @@ place_tokens p = tok.Fixed s.OpenBracket ∷ (base_tokens p.base ++ (offset_toke
 abbrev pub access_tokens : Scalar → Place → Tokens
 access_tokens k p = mem_tokens k ++ place_tokens p
 
+abbrev pub result_token : Option Scalar → Token
+result_token None = tok.Fixed s.Void
+result_token (Some k) = tok.Fixed (scalar_symbol k)
+
+abbrev pub scalar_tokens : Scalar → Tokens
+scalar_tokens k = tok.Fixed (scalar_symbol k) ∷ []
+
+abbrev pub signature_tokens : Signature → Tokens
+signature_tokens g = tok.Fixed s.Less ∷ result_token g.result ∷ tok.Fixed s.Open ∷ (separated_tokens scalar_tokens g.params ++ tok.Fixed s.Close ∷ tok.Fixed s.Greater ∷ [])
+
 abbrev pub simple_tokens : Stmt → Tokens
 simple_tokens (Copy x from) = tok.Name x ∷ tok.Fixed s.Assign ∷ operand_tokens from
 simple_tokens (Arith x l o r) = tok.Name x ∷ tok.Fixed s.Assign ∷ (operand_tokens l ++ (tok.Fixed (op_symbol o) ∷ operand_tokens r))
@@ -63,6 +74,7 @@ simple_tokens (Convert x k from) = tok.Name x ∷ tok.Fixed s.Assign ∷ tok.Fix
 simple_tokens (Load x k place) = tok.Name x ∷ tok.Fixed s.Assign ∷ access_tokens k place
 simple_tokens (Store k place from) = mem_tokens k ++ (place_tokens place ++ (tok.Fixed s.Assign ∷ operand_tokens from))
 simple_tokens (Call to f xs) = to_tokens to ++ call_tokens f xs
+simple_tokens (Indirect to g x xs) = to_tokens to ++ (tok.Fixed s.Star ∷ (signature_tokens g ++ call_tokens x xs))
 simple_tokens (Get x) = tok.Name x ∷ tok.Fixed s.Assign ∷ tok.Fixed s.Getint ∷ tok.Fixed s.Open ∷ tok.Fixed s.Close ∷ []
 simple_tokens (Put from) = tok.Fixed s.Putint ∷ tok.Fixed s.Open ∷ (operand_tokens from ++ tok.Fixed s.Close ∷ [])
 simple_tokens Abort = tok.Fixed s.Abort ∷ tok.Fixed s.Open ∷ tok.Fixed s.Close ∷ []
@@ -105,12 +117,8 @@ declared_tokens r = tok.Fixed (scalar_symbol r.scalar) ∷ tok.Name r.name ∷ t
 abbrev pub local_tokens : Decl → Tokens
 local_tokens d = tok.Fixed s.Local ∷ (decl_tokens d ++ tok.Fixed s.Semi ∷ [])
 
-abbrev pub result_token : Option Scalar → Token
-result_token None = tok.Fixed s.Void
-result_token (Some k) = tok.Fixed (scalar_symbol k)
-
 abbrev pub function_tokens : Function → Tokens
 function_tokens f = result_token f.result ∷ tok.Name f.name ∷ tok.Fixed s.Open ∷ (separated_tokens register_tokens f.params ++ (tok.Fixed s.Close ∷ tok.Fixed s.OpenBrace ∷ (flat_map local_tokens f.locals ++ (flat_map declared_tokens f.registers ++ (flat_map block_tokens f.blocks ++ tok.Fixed s.CloseBrace ∷ [])))))
 
 abbrev pub program_tokens : Program → Tokens
-program_tokens p = tok.Fixed s.Gimple ∷ tok.Number 1 ∷ tok.Fixed s.Semi ∷ (flat_map struct_tokens p.structs ++ (flat_map global_tokens p.globals ++ flat_map function_tokens p.functions))
+program_tokens p = tok.Fixed s.Gimple ∷ tok.Number p.profile ∷ tok.Fixed s.Semi ∷ (flat_map struct_tokens p.structs ++ (flat_map global_tokens p.globals ++ flat_map function_tokens p.functions))

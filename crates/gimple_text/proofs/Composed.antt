@@ -4,7 +4,8 @@ use Rattle.std.specs.Prelude.{IfOk, IfErr}
 use Rattle.std.proofs.lemmas.List.{append-nil, nil_from_length}
 use Rattle.gimple_ir.specs.declared.program.Program.{Program}
 use Rattle.gimple_tokens.specs.declared.token.Token.{Token}
-use Rattle.gimple_tokens.specs.Lexing.{Bytes, Lexes, LexesUpTo, skip}
+use Rattle.gimple_ir.specs.Names.{Bytes}
+use Rattle.gimple_tokens.specs.Lexing.{Lexes, LexesUpTo, skip}
 use Rattle.gimple_tokens.specs.Front.{Front, walk}
 use Rattle.gimple_tokens.specs.Spots.{spot_at}
 use Rattle.gimple_tokens.proofs.Runs.{ended, walked}

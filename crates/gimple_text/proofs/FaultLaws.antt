@@ -4,7 +4,8 @@ use Rattle.std.proofs.lemmas.List.{append-nil}
 use Rattle.gimple_ir.specs.declared.program.Program.{Program}
 use Rattle.gimple_tokens.specs.declared.token.Token.{Token}
 use Rattle.gimple_tokens.specs.declared.spot.Spot.{Spot}
-use Rattle.gimple_tokens.specs.Lexing.{Bytes, Lexes, LexesUpTo, token_at, skip, AllReal}
+use Rattle.gimple_ir.specs.Names.{Bytes}
+use Rattle.gimple_tokens.specs.Lexing.{Lexes, LexesUpTo, token_at, skip, AllReal}
 use Rattle.gimple_tokens.specs.Spots.{spot_before}
 use Rattle.gimple_tokens.proofs.OneList.{some_parts, to_end, compared}
 use Rattle.gimple_tokens.proofs.Real.{up_to_real}

@@ -7,7 +7,7 @@ use Rattle.gimple_ir.specs.declared.operand.Base.{Base}
 use Rattle.gimple_ir.specs.declared.operand.Base.TheVariants as base
 use Rattle.gimple_ir.specs.declared.operand.Place.{Place}
 use Rattle.gimple_ir.specs.declared.statement.Stmt.{Stmt}
-use Rattle.gimple_ir.specs.declared.statement.Stmt.TheVariants.{Copy, Arith, Compare, Convert, Load, Store, Call, Get, Put, Abort}
+use Rattle.gimple_ir.specs.declared.statement.Stmt.TheVariants.{Copy, Arith, Compare, Convert, Load, Store, Call, Indirect, Get, Put, Abort}
 use Rattle.gimple_ir.specs.declared.block.Case.{Case}
 use Rattle.gimple_ir.specs.declared.block.End.{End}
 use Rattle.gimple_ir.specs.declared.block.End.TheVariants.{Goto, If, Switch, Return}
@@ -23,12 +23,13 @@ use Rattle.gimple_ir.specs.declared.program.Program.{Program}
 use Rattle.gimple_tokens.specs.declared.token.Symbol.{Symbol}
 use Rattle.gimple_tokens.specs.declared.token.Symbol.TheVariants as s
 use Rattle.gimple_tokens.specs.declared.token.Token.TheVariants as tok
-use Rattle.gimple_tokens.specs.Lexing.{IsNameText, AllReal}
+use Rattle.gimple_ir.specs.Names.{IsNameText}
+use Rattle.gimple_tokens.specs.Lexing.{AllReal}
 use Rattle.gimple_tokens.proofs.Real.{front_real, back_real}
 use Rattle.token_law.specs.Reading.{Tokens}
 use Rattle.token_law.specs.Languages.{IsMany, IsAfterComma, IsSeparated}
 use Rattle.gimple_grammar.specs.Grammar.{negative, scalar_symbol, op_symbol, cmp_symbol, IsSigned, IsOffset, IsAddress, IsItem, IsOperand, IsArguments, base_tokens, IsPlace, mem_tokens, IsSimple, IsStmt, target_tokens, goto_tokens, IsCase, IsEnd, IsBlock, shape_tokens, length_tokens, decl_tokens, IsField, IsStruct, const_tokens, IsItems, IsGlobal, IsRegister, IsDeclared, IsLocal, IsFunction, IsProgram}
-use Rattle.gimple_text.specs.Canon.{AllOf, IsSpellableNumber, IsSpellableOperand, IsSpellableItem, IsSpellableBase, IsSpellablePlace, IsSpellableStmt, IsSpellableCase, IsSpellableEnd, IsSpellableBlock, IsSpellableShape, IsSpellableLength, IsSpellableDecl, IsSpellableStruct, IsSpellableGlobal, IsSpellableRegister, IsSpellableFunction, IsSpellable}
+use Rattle.gimple_ir.specs.Spellable.{AllOf, IsSpellableNumber, IsSpellableOperand, IsSpellableItem, IsSpellableBase, IsSpellablePlace, IsSpellableStmt, IsSpellableCase, IsSpellableEnd, IsSpellableBlock, IsSpellableShape, IsSpellableLength, IsSpellableDecl, IsSpellableStruct, IsSpellableGlobal, IsSpellableRegister, IsSpellableFunction, IsSpellable}
 
 -- the parts of tokens that bytes can have
 both : (ts a b : Tokens) → ts ≡ a ++ b → AllReal ts → AllReal a × AllReal b
@@ -104,24 +105,32 @@ pair_ok x l r y a b ts h k e real =
     let w = both (a ++ tok.Fixed y ∷ b) a (tok.Fixed y ∷ b) refl q.1.1 in
     (q.0, operand_ok l a h w.0, operand_ok r b k w.1.1)
 
-simple_ok : (b : Stmt) (ts : Tokens) → IsSimple b ts → AllReal ts → IsSpellableStmt b
-simple_ok (Copy x from) ts h r = let q : AllReal (tok.Name x ∷ tok.Fixed s.Assign ∷ h.0) = subst AllReal h.2 r in (q.0, operand_ok from h.0 h.1 q.1.1)
-simple_ok (Arith x l o c) ts h r = pair_ok x l c (op_symbol o) h.0 h.1 ts h.2 h.3 h.4 r
-simple_ok (Compare x l o c) ts h r = pair_ok x l c (cmp_symbol o) h.0 h.1 ts h.2 h.3 h.4 r
-simple_ok (Convert x k from) ts h r = let q : AllReal (tok.Name x ∷ tok.Fixed s.Assign ∷ tok.Fixed s.Open ∷ tok.Fixed (scalar_symbol k) ∷ tok.Fixed s.Close ∷ h.0) = subst AllReal h.2 r in (q.0, operand_ok from h.0 h.1 q.1.1.1.1.1)
-simple_ok (Load x k place) ts h r = let q : AllReal (tok.Name x ∷ tok.Fixed s.Assign ∷ (mem_tokens k ++ h.0)) = subst AllReal h.2 r in (q.0, place_ok place h.0 h.1 q.1.1.1.1.1.1)
-simple_ok (Store k place from) ts h r =
+simple_ok : (profile : ℕ) (b : Stmt) (ts : Tokens) → IsSimple profile b ts → AllReal ts → IsSpellableStmt profile b
+simple_ok profile (Copy x from) ts h r = let q : AllReal (tok.Name x ∷ tok.Fixed s.Assign ∷ h.0) = subst AllReal h.2 r in (q.0, operand_ok from h.0 h.1 q.1.1)
+simple_ok profile (Arith x l o c) ts h r = pair_ok x l c (op_symbol o) h.0 h.1 ts h.2 h.3 h.4 r
+simple_ok profile (Compare x l o c) ts h r = pair_ok x l c (cmp_symbol o) h.0 h.1 ts h.2 h.3 h.4 r
+simple_ok profile (Convert x k from) ts h r = let q : AllReal (tok.Name x ∷ tok.Fixed s.Assign ∷ tok.Fixed s.Open ∷ tok.Fixed (scalar_symbol k) ∷ tok.Fixed s.Close ∷ h.0) = subst AllReal h.2 r in (q.0, operand_ok from h.0 h.1 q.1.1.1.1.1)
+simple_ok profile (Load x k place) ts h r = let q : AllReal (tok.Name x ∷ tok.Fixed s.Assign ∷ (mem_tokens k ++ h.0)) = subst AllReal h.2 r in (q.0, place_ok place h.0 h.1 q.1.1.1.1.1.1)
+simple_ok profile (Store k place from) ts h r =
     let q : AllReal (mem_tokens k ++ (h.0 ++ tok.Fixed s.Assign ∷ h.1)) = subst AllReal h.4 r in
     let w = both (h.0 ++ tok.Fixed s.Assign ∷ h.1) h.0 (tok.Fixed s.Assign ∷ h.1) refl q.1.1.1.1 in
     (place_ok place h.0 h.2 w.0, operand_ok from h.1 h.3 w.1.1)
-simple_ok (Call None f xs) ts h r = let q : AllReal (tok.Name f ∷ h.0) = subst AllReal h.2 r in (tt, q.0, arguments_ok xs h.0 h.1 q.1)
-simple_ok (Call (Some x) f xs) ts h r = let q : AllReal (tok.Name x ∷ tok.Fixed s.Assign ∷ tok.Name f ∷ h.0) = subst AllReal h.2 r in (q.0, q.1.1.0, arguments_ok xs h.0 h.1 q.1.1.1)
-simple_ok (Get x) ts h r = let q : AllReal (tok.Name x ∷ tok.Fixed s.Assign ∷ tok.Fixed s.Getint ∷ tok.Fixed s.Open ∷ tok.Fixed s.Close ∷ []) = subst AllReal h r in q.0
-simple_ok (Put from) ts h r = let q : AllReal (tok.Fixed s.Putint ∷ tok.Fixed s.Open ∷ (h.0 ++ tok.Fixed s.Close ∷ [])) = subst AllReal h.2 r in operand_ok from h.0 h.1 (front_real h.0 (tok.Fixed s.Close ∷ []) q.1.1)
-simple_ok Abort ts h r = tt
+simple_ok profile (Call None f xs) ts h r = let q : AllReal (tok.Name f ∷ h.0) = subst AllReal h.2 r in (tt, q.0, arguments_ok xs h.0 h.1 q.1)
+simple_ok profile (Call (Some x) f xs) ts h r = let q : AllReal (tok.Name x ∷ tok.Fixed s.Assign ∷ tok.Name f ∷ h.0) = subst AllReal h.2 r in (q.0, q.1.1.0, arguments_ok xs h.0 h.1 q.1.1.1)
+simple_ok profile (Indirect None g x xs) ts h r =
+    let q : AllReal (tok.Fixed s.Star ∷ (h.0 ++ (tok.Name x ∷ h.1))) = subst AllReal h.4 r in
+    let w = back_real h.0 (tok.Name x ∷ h.1) q.1 in
+    (tt, w.0, arguments_ok xs h.1 h.3 w.1, h.5)
+simple_ok profile (Indirect (Some x) g y xs) ts h r =
+    let q : AllReal (tok.Name x ∷ tok.Fixed s.Assign ∷ tok.Fixed s.Star ∷ (h.0 ++ (tok.Name y ∷ h.1))) = subst AllReal h.4 r in
+    let w = back_real h.0 (tok.Name y ∷ h.1) q.1.1.1 in
+    (q.0, w.0, arguments_ok xs h.1 h.3 w.1, h.5)
+simple_ok profile (Get x) ts h r = let q : AllReal (tok.Name x ∷ tok.Fixed s.Assign ∷ tok.Fixed s.Getint ∷ tok.Fixed s.Open ∷ tok.Fixed s.Close ∷ []) = subst AllReal h r in q.0
+simple_ok profile (Put from) ts h r = let q : AllReal (tok.Fixed s.Putint ∷ tok.Fixed s.Open ∷ (h.0 ++ tok.Fixed s.Close ∷ [])) = subst AllReal h.2 r in operand_ok from h.0 h.1 (front_real h.0 (tok.Fixed s.Close ∷ []) q.1.1)
+simple_ok profile Abort ts h r = tt
 
-statement_ok : (b : Stmt) (ts : Tokens) → IsStmt b ts → AllReal ts → IsSpellableStmt b
-statement_ok b ts h r = simple_ok b h.0 h.1 (both ts h.0 (tok.Fixed s.Semi ∷ []) h.2 r).0
+statement_ok : (profile : ℕ) (b : Stmt) (ts : Tokens) → IsStmt profile b ts → AllReal ts → IsSpellableStmt profile b
+statement_ok profile b ts h r = simple_ok profile b h.0 h.1 (both ts h.0 (tok.Fixed s.Semi ∷ []) h.2 r).0
 
 case_ok : (c : Case) (ts : Tokens) → IsCase c ts → AllReal ts → IsSpellableCase c
 case_ok c ts h r =
@@ -150,11 +159,11 @@ end_ok (Switch on cases other) ts h r =
 end_ok (Return None) ts h r = tt
 end_ok (Return (Some o)) ts h r = let q : AllReal (tok.Fixed s.Return ∷ (h.0 ++ tok.Fixed s.Semi ∷ [])) = subst AllReal h.2 r in operand_ok o h.0 h.1 (front_real h.0 (tok.Fixed s.Semi ∷ []) q.1)
 
-block_ok : (b : Block) (ts : Tokens) → IsBlock b ts → AllReal ts → IsSpellableBlock b
-block_ok b ts h r =
+block_ok : (profile : ℕ) (b : Block) (ts : Tokens) → IsBlock profile b ts → AllReal ts → IsSpellableBlock profile b
+block_ok profile b ts h r =
     let q : AllReal (target_tokens b.label ++ (tok.Fixed s.Colon ∷ (h.0 ++ h.1))) = subst AllReal h.4 r in
     let w = both (h.0 ++ h.1) h.0 h.1 refl q.1.1.1.1.1 in
-    (q.1.1.0, many_ok IsStmt IsSpellableStmt statement_ok b.body h.0 h.2 w.0, end_ok b.end h.1 h.3 w.1)
+    (q.1.1.0, many_ok (IsStmt profile) (IsSpellableStmt profile) (statement_ok profile) b.body h.0 h.2 w.0, end_ok b.end h.1 h.3 w.1)
 
 -- ---- declarations
 
@@ -204,8 +213,8 @@ local_ok d ts h r = let q : AllReal (tok.Fixed s.Local ∷ (decl_tokens d ++ tok
 
 -- ---- functions and programs
 
-function_ok : (f : Function) (ts : Tokens) → IsFunction f ts → AllReal ts → IsSpellableFunction f
-function_ok f ts h r =
+function_ok : (profile : ℕ) (f : Function) (ts : Tokens) → IsFunction profile f ts → AllReal ts → IsSpellableFunction profile f
+function_ok profile f ts h r =
     let t1 : Tokens = h.4 ++ tok.Fixed s.CloseBrace ∷ [] in
     let t2 : Tokens = h.3 ++ t1 in
     let t3 : Tokens = h.2 ++ t2 in
@@ -220,16 +229,17 @@ function_ok f ts h r =
       params = separated_ok IsRegister IsSpellableRegister register_ok f.params h.1 h.6 w.0;
       locals = many_ok IsLocal IsSpellableDecl local_ok f.locals h.2 h.7 v.0;
       registers = many_ok IsDeclared IsSpellableRegister declared_ok f.registers h.3 h.8 u.0;
-      blocks = many_ok IsBlock IsSpellableBlock block_ok f.blocks h.4 h.9 (front_real h.4 (tok.Fixed s.CloseBrace ∷ []) u.1);
+      blocks = many_ok (IsBlock profile) (IsSpellableBlock profile) (block_ok profile) f.blocks h.4 h.9 (front_real h.4 (tok.Fixed s.CloseBrace ∷ []) u.1);
     }
 
 pub program_ok : (p : Program) (ts : Tokens) → IsProgram p ts → AllReal ts → IsSpellable p
 program_ok p ts h r =
-    let q : AllReal (tok.Fixed s.Gimple ∷ tok.Number 1 ∷ tok.Fixed s.Semi ∷ (h.0 ++ (h.1 ++ h.2))) = subst AllReal h.6 r in
+    let q : AllReal (tok.Fixed s.Gimple ∷ tok.Number p.profile ∷ tok.Fixed s.Semi ∷ (h.0 ++ (h.1 ++ h.2))) = subst AllReal h.6 r in
     let w = both (h.0 ++ (h.1 ++ h.2)) h.0 (h.1 ++ h.2) refl q.1.1.1 in
     let v = both (h.1 ++ h.2) h.1 h.2 refl w.1 in
     record {
+      profile = h.7;
       structs = many_ok IsStruct IsSpellableStruct struct_ok p.structs h.0 h.3 w.0;
       globals = many_ok IsGlobal IsSpellableGlobal global_ok p.globals h.1 h.4 v.0;
-      functions = many_ok IsFunction IsSpellableFunction function_ok p.functions h.2 h.5 v.1;
+      functions = many_ok (IsFunction p.profile) (IsSpellableFunction p.profile) (function_ok p.profile) p.functions h.2 h.5 v.1;
     }

@@ -1,5 +1,5 @@
--- The canonical text of programs, and which programs have a text.
-use Rattle.std.specs.Prelude.{ℕ, zero, suc, ◌<◌, ◌^◌, Bool, true, false, List, [], ◌∷◌, ◌++◌, Option, Some, None, codes, ℤ, pos, negsuc}
+-- The canonical text of programs.
+use Rattle.std.specs.Prelude.{ℕ, zero, suc, Bool, true, false, List, [], ◌∷◌, ◌++◌, Option, Some, None, codes, ℤ, pos, negsuc}
 use Rattle.std.specs.List.{flat_map}
 use Rattle.std.specs.Fmt.{decimal, signed_decimal}
 use Rattle.gimple_ir.specs.declared.operand.Operand.{Operand}
@@ -13,8 +13,9 @@ use Rattle.gimple_ir.specs.declared.scalar.Cmp.{Cmp}
 use Rattle.gimple_ir.specs.declared.scalar.Cmp.TheVariants as cmp
 use Rattle.gimple_ir.specs.declared.scalar.Scalar.{Scalar}
 use Rattle.gimple_ir.specs.declared.scalar.Scalar.TheVariants.{I8, I16, I32, I64, U8, U16, U32, U64, Ptr}
+use Rattle.gimple_ir.specs.declared.statement.Signature.{Signature}
 use Rattle.gimple_ir.specs.declared.statement.Stmt.{Stmt}
-use Rattle.gimple_ir.specs.declared.statement.Stmt.TheVariants.{Copy, Arith, Compare, Convert, Load, Store, Call, Get, Put, Abort}
+use Rattle.gimple_ir.specs.declared.statement.Stmt.TheVariants.{Copy, Arith, Compare, Convert, Load, Store, Call, Indirect, Get, Put, Abort}
 use Rattle.gimple_ir.specs.declared.block.Case.{Case}
 use Rattle.gimple_ir.specs.declared.block.End.{End}
 use Rattle.gimple_ir.specs.declared.block.End.TheVariants.{Goto, If, Switch, Return}
@@ -27,7 +28,7 @@ use Rattle.gimple_ir.specs.declared.declarations.Global.{Global}
 use Rattle.gimple_ir.specs.declared.declarations.Register.{Register}
 use Rattle.gimple_ir.specs.declared.program.Function.{Function}
 use Rattle.gimple_ir.specs.declared.program.Program.{Program}
-use Rattle.gimple_tokens.specs.Lexing.{Bytes, IsNameText}
+use Rattle.gimple_ir.specs.Names.{Bytes}
 
 -- ---- parts of lines
 
@@ -111,6 +112,14 @@ to_text (Some x) = assigned_text x
 abbrev pub call_text : Bytes → List Operand → Bytes
 call_text f xs = f ++ (codes " (" ++ (separated_text operand_text xs ++ codes ")"))
 
+abbrev pub result_text : Option Scalar → Bytes
+result_text None = codes "void"
+result_text (Some kind) = scalar_text kind
+
+-- what an indirect call says of its callee
+unfoldable pub signature_text : Signature → Bytes
+signature_text g = codes "*<" ++ (result_text g.result ++ (codes " (" ++ (separated_text scalar_text g.params ++ codes ")> ")))
+
 -- a statement without its blanks and semicolon
 abbrev pub simple_text : Stmt → Bytes
 simple_text (Copy x from) = assigned_text x ++ operand_text from
@@ -120,6 +129,7 @@ simple_text (Convert x kind from) = assigned_text x ++ (codes "(" ++ (scalar_tex
 simple_text (Load x kind place) = assigned_text x ++ mem_text kind place
 simple_text (Store kind place from) = mem_text kind place ++ (codes " = " ++ operand_text from)
 simple_text (Call to f xs) = to_text to ++ call_text f xs
+simple_text (Indirect to g x xs) = to_text to ++ (signature_text g ++ call_text x xs)
 simple_text (Get x) = assigned_text x ++ codes "getint ()"
 simple_text (Put from) = codes "putint (" ++ (operand_text from ++ codes ")")
 simple_text Abort = codes "abort ()"
@@ -178,10 +188,6 @@ global_text g = codes "global " ++ (const_text g.constant ++ (decl_text g.decl +
 
 -- ---- functions and programs
 
-abbrev pub result_text : Option Scalar → Bytes
-result_text None = codes "void"
-result_text (Some kind) = scalar_text kind
-
 abbrev pub register_text : Register → Bytes
 register_text r = scalar_text r.scalar ++ (codes " " ++ r.name)
 
@@ -197,98 +203,10 @@ head_text f = result_text f.result ++ (codes " " ++ (f.name ++ (codes " (" ++ (s
 abbrev pub function_text : Function → Bytes
 function_text f = head_text f ++ (flat_map local_text f.locals ++ (flat_map register_line f.registers ++ (flat_map block_text f.blocks ++ (codes "}" ++ 10 ∷ []))))
 
+-- the first line, by the profile
+unfoldable pub header_text : ℕ → Bytes
+header_text profile = codes "gimple " ++ (decimal profile ++ (codes ";" ++ 10 ∷ []))
+
 -- the canonical text
 unfoldable pub canon : Program → Bytes
-canon p = codes "gimple 1;" ++ 10 ∷ (flat_map struct_text p.structs ++ (flat_map global_text p.globals ++ flat_map function_text p.functions))
-
--- ---- which programs have a text
-
-abbrev pub AllOf : {A : Type 0} → (A → Type 0) → List A → Type 0
-AllOf P [] = Unit {0}
-AllOf P (x ∷ xs) = P x × AllOf P xs
-
-abbrev pub IsSpellableNumber : ℤ → Type 0
-IsSpellableNumber (pos n) = n < 2 ^ 64
-IsSpellableNumber (negsuc n) = suc n < 2 ^ 64
-
-abbrev pub IsSpellableOperand : Operand → Type 0
-IsSpellableOperand (Reg x) = IsNameText x
-IsSpellableOperand (Number z) = IsSpellableNumber z
-IsSpellableOperand Null = Unit {0}
-IsSpellableOperand (Address x z) = IsNameText x × IsSpellableNumber z
-
--- an item of a global is no register
-abbrev pub IsSpellableItem : Operand → Type 0
-IsSpellableItem (Reg x) = ⊥
-IsSpellableItem (Number z) = IsSpellableNumber z
-IsSpellableItem Null = Unit {0}
-IsSpellableItem (Address x z) = IsNameText x × IsSpellableNumber z
-
-abbrev pub IsSpellableBase : Base → Type 0
-IsSpellableBase (base.Reg x) = IsNameText x
-IsSpellableBase (base.Variable x) = IsNameText x
-
-abbrev pub IsSpellablePlace : Place → Type 0
-IsSpellablePlace p = IsSpellableBase p.base × IsSpellableNumber p.offset
-
-abbrev pub IsSpellableTarget : Option Bytes → Type 0
-IsSpellableTarget None = Unit {0}
-IsSpellableTarget (Some x) = IsNameText x
-
-abbrev pub IsSpellableStmt : Stmt → Type 0
-IsSpellableStmt (Copy x from) = IsNameText x × IsSpellableOperand from
-IsSpellableStmt (Arith x l o r) = IsNameText x × IsSpellableOperand l × IsSpellableOperand r
-IsSpellableStmt (Compare x l c r) = IsNameText x × IsSpellableOperand l × IsSpellableOperand r
-IsSpellableStmt (Convert x kind from) = IsNameText x × IsSpellableOperand from
-IsSpellableStmt (Load x kind place) = IsNameText x × IsSpellablePlace place
-IsSpellableStmt (Store kind place from) = IsSpellablePlace place × IsSpellableOperand from
-IsSpellableStmt (Call to f xs) = IsSpellableTarget to × IsNameText f × AllOf IsSpellableOperand xs
-IsSpellableStmt (Get x) = IsNameText x
-IsSpellableStmt (Put from) = IsSpellableOperand from
-IsSpellableStmt Abort = Unit {0}
-
-abbrev pub IsSpellableCase : Case → Type 0
-IsSpellableCase c = IsSpellableNumber c.value × (c.target < 2 ^ 64)
-
-abbrev pub IsSpellableEnd : End → Type 0
-IsSpellableEnd (Goto n) = n < 2 ^ 64
-IsSpellableEnd (If l c r first second) = IsSpellableOperand l × IsSpellableOperand r × (first < 2 ^ 64) × (second < 2 ^ 64)
-IsSpellableEnd (Switch on cases other) = IsSpellableOperand on × AllOf IsSpellableCase cases × (other < 2 ^ 64)
-IsSpellableEnd (Return None) = Unit {0}
-IsSpellableEnd (Return (Some o)) = IsSpellableOperand o
-
-abbrev pub IsSpellableBlock : Block → Type 0
-IsSpellableBlock b = (b.label < 2 ^ 64) × AllOf IsSpellableStmt b.body × IsSpellableEnd b.end
-
-abbrev pub IsSpellableShape : Shape → Type 0
-IsSpellableShape (Plain kind) = Unit {0}
-IsSpellableShape (Named x) = IsNameText x
-
-abbrev pub IsSpellableLength : Option ℕ → Type 0
-IsSpellableLength None = Unit {0}
-IsSpellableLength (Some n) = n < 2 ^ 64
-
-abbrev pub IsSpellableDecl : Decl → Type 0
-IsSpellableDecl d = IsNameText d.name × IsSpellableShape d.shape × IsSpellableLength d.length
-
-abbrev pub IsSpellableStruct : StructDef → Type 0
-IsSpellableStruct x = IsNameText x.name × AllOf IsSpellableDecl x.fields
-
-abbrev pub IsSpellableGlobal : Global → Type 0
-IsSpellableGlobal g = IsSpellableDecl g.decl × AllOf IsSpellableItem g.items
-
-abbrev pub IsSpellableRegister : Register → Type 0
-IsSpellableRegister r = IsNameText r.name
-
-pub record IsSpellableFunction (f : Function) : Type 0 where
-  pub name : IsNameText f.name
-  pub params : AllOf IsSpellableRegister f.params
-  pub locals : AllOf IsSpellableDecl f.locals
-  pub registers : AllOf IsSpellableRegister f.registers
-  pub blocks : AllOf IsSpellableBlock f.blocks
-
--- names are names and no keywords, numbers have 64 bits, and no item of a global is a register
-pub record IsSpellable (p : Program) : Type 0 where
-  pub structs : AllOf IsSpellableStruct p.structs
-  pub globals : AllOf IsSpellableGlobal p.globals
-  pub functions : AllOf IsSpellableFunction p.functions
+canon p = header_text p.profile ++ (flat_map struct_text p.structs ++ (flat_map global_text p.globals ++ flat_map function_text p.functions))

@@ -3,7 +3,8 @@ use Rattle.std.specs.Prelude.{◌≡◌, ◌≢◌, ℕ, zero, suc, ◌-◌, Lis
 use Rattle.gimple_ir.specs.declared.program.Program.{Program}
 use Rattle.gimple_tokens.specs.declared.token.Token.{Token}
 use Rattle.gimple_tokens.specs.declared.spot.Spot.{Spot}
-use Rattle.gimple_tokens.specs.Lexing.{Bytes, Lexes, LexesUpTo, token_at, skip}
+use Rattle.gimple_ir.specs.Names.{Bytes}
+use Rattle.gimple_tokens.specs.Lexing.{Lexes, LexesUpTo, token_at, skip}
 use Rattle.gimple_tokens.specs.Front.{walk}
 use Rattle.gimple_tokens.specs.Spots.{spot_at, spot_before}
 use Rattle.token_law.specs.declared.cursor.Fault.{Fault}

@@ -2,7 +2,7 @@
 
 ghost use Rattle.std.specs.Prelude.{◌≡◌, ◌<◌, ◌^◌, ◌-◌, length, IfOk, IfErr};
 ghost use Rattle.gimple_ir.specs.declared.program.Program as syntax;
-ghost use Rattle.gimple_ir.specs.Counts.{IsCountable};
+ghost use Rattle.gimple_ir.specs.Counts.{CountsWithin, IsCountable};
 ghost use Rattle.gimple_tokens.specs.Spots as spots;
 ghost use Rattle.gimple_text.specs.Parse.{Spells, FaultOrMemory, ParsesAs, Judged, OneProgram, FaultExcludes, OneFault};
 
@@ -61,7 +61,9 @@ pub fn parse(alloc: Global, bytes: &[u8]) -> Result<Program, TextFault>
     requires { length bytes.now < 2 ^ 32 }
     // What is read is spelled so.
     ensures found { IfOk result (λ p. Spells bytes.now p) }
-    // It has no more parts than the text has bytes.
+    // It has fewer parts of each kind than the text has bytes.
+    ensures counts { IfOk result (CountsWithin (length bytes.now)) }
+    // So 32 bits can number them.
     ensures countable { IfOk result IsCountable }
     // What is spelled so is read, unless memory runs out.
     ensures only { (p : syntax.Program) → Spells bytes.now p → ParsesAs p result }

@@ -4,11 +4,11 @@ ghost use Rattle.std.specs.Prelude.{◌≡◌, ◌++◌, OnOk, IfOk};
 ghost use Rattle.std.specs.List.{flat_map};
 ghost use Rattle.std.specs.Fmt.{decimal, signed_decimal};
 ghost use Rattle.gimple_text.specs.Canon as spec;
-ghost use Rattle.gimple_text.specs.CanonLaws.{CanonSpells, SpellableHasText, DroppingKeepsTexts};
+ghost use Rattle.gimple_text.specs.CanonLaws.{CanonSpells, PrintedIsRead, SpellableHasText, DroppingKeepsTexts};
 
 use gimple_ir::{
     Base, Block, Case, Cmp, Decl, End, Function, Global, Op, Operand, OutOfMemory, Place, Program,
-    Register, Scalar, Shape, Stmt, StructDef, Text,
+    Register, Scalar, Shape, Signature, Stmt, StructDef, Text,
 };
 use std::alloc::Global as Heap;
 
@@ -196,6 +196,59 @@ fn put_call(out: &mut Text, callee: &Text, arguments: &[Operand]) -> Result<(), 
     out.push_all(b")")
 }
 
+fn put_to(out: &mut Text, to: &Option<Text>) -> Result<(), OutOfMemory>
+    ensures { OnOk result (out.new ≡ out.old ++ spec.to_text to.now) }
+{
+    match to {
+        None => Ok(()),
+        Some(to) => put_assigned(out, to),
+    }
+}
+
+fn put_result(out: &mut Text, result_scalar: Option<Scalar>) -> Result<(), OutOfMemory>
+    ensures { OnOk result (out.new ≡ out.old ++ spec.result_text result_scalar) }
+{
+    match result_scalar {
+        None => out.push_all(b"void"),
+        Some(scalar) => put_scalar(out, scalar),
+    }
+}
+
+fn put_more_scalars(out: &mut Text, scalars: &[Scalar]) -> Result<(), OutOfMemory>
+    ensures { OnOk result (out.new ≡ out.old ++ spec.more_text spec.scalar_text scalars.now) }
+{
+    let mut rest = scalars;
+    while let [next, after @ ..] = rest {
+        out.push_all(b", ")?;
+        put_scalar(out, *next)?;
+        rest = after;
+    }
+    Ok(())
+}
+
+fn put_scalars(out: &mut Text, scalars: &[Scalar]) -> Result<(), OutOfMemory>
+    ensures { OnOk result (out.new ≡ out.old ++ spec.separated_text spec.scalar_text scalars.now) }
+{
+    match scalars {
+        [] => Ok(()),
+        [first, rest @ ..] => {
+            put_scalar(out, *first)?;
+            put_more_scalars(out, rest)
+        }
+    }
+}
+
+#[tactic(auto, unfolding(crate::specs::Canon::signature_text))]
+fn put_signature(out: &mut Text, signature: &Signature) -> Result<(), OutOfMemory>
+    ensures { OnOk result (out.new ≡ out.old ++ spec.signature_text signature.now) }
+{
+    out.push_all(b"*<")?;
+    put_result(out, signature.result)?;
+    out.push_all(b" (")?;
+    put_scalars(out, signature.params.as_slice())?;
+    out.push_all(b")> ")
+}
+
 fn put_simple(out: &mut Text, statement: &Stmt) -> Result<(), OutOfMemory>
     ensures { OnOk result (out.new ≡ out.old ++ spec.simple_text statement.now) }
 {
@@ -249,9 +302,17 @@ fn put_simple(out: &mut Text, statement: &Stmt) -> Result<(), OutOfMemory>
             callee,
             arguments,
         } => {
-            if let Some(to) = to {
-                put_assigned(out, to)?;
-            }
+            put_to(out, to)?;
+            put_call(out, callee, arguments.as_slice())
+        }
+        Stmt::Indirect {
+            to,
+            signature,
+            callee,
+            arguments,
+        } => {
+            put_to(out, to)?;
+            put_signature(out, signature)?;
             put_call(out, callee, arguments.as_slice())
         }
         Stmt::Get { to } => {
@@ -478,15 +539,6 @@ fn put_globals(out: &mut Text, globals: &[Global]) -> Result<(), OutOfMemory>
 
 // ---- functions and programs
 
-fn put_result(out: &mut Text, result_scalar: Option<Scalar>) -> Result<(), OutOfMemory>
-    ensures { OnOk result (out.new ≡ out.old ++ spec.result_text result_scalar) }
-{
-    match result_scalar {
-        None => out.push_all(b"void"),
-        Some(scalar) => put_scalar(out, scalar),
-    }
-}
-
 fn put_register(out: &mut Text, register: &Register) -> Result<(), OutOfMemory>
     ensures { OnOk result (out.new ≡ out.old ++ spec.register_text register.now) }
 {
@@ -583,6 +635,15 @@ fn put_functions(out: &mut Text, functions: &[Function]) -> Result<(), OutOfMemo
     Ok(())
 }
 
+#[tactic(auto, unfolding(crate::specs::Canon::header_text))]
+fn put_header(out: &mut Text, profile: u8) -> Result<(), OutOfMemory>
+    ensures { OnOk result (out.new ≡ out.old ++ spec.header_text profile) }
+{
+    out.push_all(b"gimple ")?;
+    put_count(out, u64::from(profile))?;
+    out.push_all(b";\n")
+}
+
 /// The canonical text of a program: one spelling for each program that some text has.
 ///
 /// Errors: want of memory.
@@ -591,7 +652,7 @@ pub fn print(alloc: Heap, program: &Program) -> Result<Text, OutOfMemory>
     ensures { IfOk result (λ text. text ≡ spec.canon program.now) }
 {
     let mut out = Text::new(alloc);
-    out.push_all(b"gimple 1;\n")?;
+    put_header(&mut out, program.profile)?;
     put_structs(&mut out, program.structs.as_slice())?;
     put_globals(&mut out, program.globals.as_slice())?;
     put_functions(&mut out, program.functions.as_slice())?;
@@ -601,6 +662,11 @@ pub fn print(alloc: Heap, program: &Program) -> Result<Text, OutOfMemory>
 /// The canonical text of a program that some text has spells the program.
 pub fn canon_spells()
     ensures { CanonSpells }
+{}
+
+/// Of a program that some text has, the canonical text spells this program alone: what is printed is read as itself.
+pub fn printed_is_read()
+    ensures { PrintedIsRead }
 {}
 
 /// A program is spellable exactly where some text spells it.

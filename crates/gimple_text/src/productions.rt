@@ -8,6 +8,8 @@ const HEADER: &str = "gimple 1; ";
 
 const BODY: &str = "gimple 1; void f () { <bb 2>: ";
 
+const SECOND_BODY: &str = "gimple 2; void f () { <bb 2>: ";
+
 // Declarations behind the header, and their printed form.
 const DECLARATIONS: &[(&str, &str)] = &[
     // program
@@ -99,6 +101,15 @@ const STATEMENTS: &[(&str, &str)] = &[
     ("putint(a);", "putint (a);"),
     ("putint(-5);", "putint (-5);"),
     ("abort();", "abort ();"),
+];
+
+// Indirect calls behind a label of a text of profile 2, and their printed form.
+const INDIRECT_CALLS: &[(&str, &str)] = &[
+    ("*<void()>p();", "*<void ()> p ();"),
+    (
+        "x=*<i32(i32,ptr)>p(a,-1);",
+        "x = *<i32 (i32, ptr)> p (a, -1);",
+    ),
 ];
 
 // Ends of a block, and their printed form.
@@ -212,6 +223,9 @@ const BAD_STATEMENTS: &[(&str, &str)] = &[
     ("x = getint (", "1);"),
     ("x = ", "putint (a);"),
     ("x = ", "abort ();"),
+    // indirect, of profile 2 alone
+    ("", "*<void ()> p ();"),
+    ("x = ", "*<i32 ()> p ();"),
     // op and cmp
     ("x = a + b ", "+ c;"),
     ("x = a < b ", "== c;"),
@@ -265,6 +279,20 @@ const BAD_STATEMENTS: &[(&str, &str)] = &[
     ("switch (a) { default: ", "goto <bb 2>;"),
     ("switch (a) { default: <bb 2>; ", "case 1: <bb 3>;"),
     ("switch (a) { default: <bb 2>; ", "default: <bb 3>;"),
+];
+
+// What stands behind a label of a text of profile 2 and begins a program, and what follows with a bad token at its head.
+const BAD_INDIRECT_CALLS: &[(&str, &str)] = &[
+    ("x = *", "p ();"),
+    ("*<", "(i32)> p (1);"),
+    ("*<void ", "> p ();"),
+    ("*<void (", "void)> p ();"),
+    ("*<void (i32 ", "a)> p (1);"),
+    ("*<void (i32,", ")> p (1);"),
+    ("*<void () ", ">= p ();"),
+    ("*<void ()> ", "&p ();"),
+    ("*<void ()> p ", ";"),
+    ("x = *<i32 ()> p () ", "+ 1;"),
 ];
 
 // Whether the text between two others is read as the program whose printed form this is.
@@ -322,6 +350,16 @@ fn productions_are_read(rt: HostRuntime) -> Result<(), Fail> {
         )?;
         assert!(rt; found, "{text}");
     }
+    let second_head = "gimple 2;\nvoid f () {\n  <bb 2>:\n    ";
+    for row in INDIRECT_CALLS {
+        let (text, want) = *row;
+        let found = comes_back(
+            alloc,
+            (SECOND_BODY, text, "return;}"),
+            (second_head, want, "\n    return;\n}\n"),
+        )?;
+        assert!(rt; found, "{text}");
+    }
     for row in ENDS {
         let (text, want) = *row;
         let found = comes_back(alloc, (BODY, text, "}"), (head, want, "\n}\n"))?;
@@ -340,6 +378,13 @@ fn bad_tokens_are_found(rt: HostRuntime) -> Result<(), Fail> {
     for row in BAD_STATEMENTS {
         let (begun, rest) = *row;
         assert!(rt; is_bad_behind(alloc, BODY, begun, rest)?, "{begun}{rest}");
+    }
+    for row in BAD_INDIRECT_CALLS {
+        let (begun, rest) = *row;
+        assert!(rt;
+            is_bad_behind(alloc, SECOND_BODY, begun, rest)?,
+            "{begun}{rest}"
+        );
     }
     Ok(())
 }

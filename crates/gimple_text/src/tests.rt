@@ -46,6 +46,27 @@ void f (i32 a, ptr p) {
 }
 ";
 
+const INDIRECT_CALL: &[u8] = b"gimple 2;
+global ptr h = {&f};
+i32 f (i32 n) {
+  i32 x;
+  <bb 2>:
+    x = n + 1;
+    return x;
+}
+i32 main () {
+  ptr p;
+  i32 a;
+  <bb 2>:
+    a = f (3);
+    putint (a);
+    p = MEM <ptr> [&h];
+    a = *<i32 (i32)> p (3);
+    putint (a);
+    return 0;
+}
+";
+
 fn refused(alloc: Global, text: &[u8]) -> Option<TextFault> {
     if text.len() >= 1_000_000 {
         return None;
@@ -70,12 +91,13 @@ fn a_text_has_one_fault(rt: HostRuntime) -> Result<(), Fail> {
     let early = b"gimple 1;\ni32 main () {\n  i32 x;\n  <bb 2>:\n    if (x <";
     assert!(rt; refused(alloc, early) == Some(TextFault::EarlyEnd(at(5, 12))));
     assert!(rt; refused(alloc, b"") == Some(TextFault::EarlyEnd(at(1, 1))));
-    assert!(rt; refused(alloc, b"gimple 2;\n") == Some(TextFault::BadToken(at(1, 8))));
+    assert!(rt; refused(alloc, b"gimple 0;\n") == Some(TextFault::BadToken(at(1, 8))));
     assert!(rt; refused(alloc, b"gimple 1;\n$\n") == Some(TextFault::BadByte(at(2, 1))));
     assert!(rt;
         refused(alloc, b"gimple 18446744073709551616;") == Some(TextFault::BadToken(at(1, 8)))
     );
-    assert!(rt; refused(alloc, b"gimple 2 $") == Some(TextFault::BadToken(at(1, 8))));
+    assert!(rt; refused(alloc, b"gimple 2 $") == Some(TextFault::BadByte(at(1, 10))));
+    assert!(rt; refused(alloc, b"gimple 3 $") == Some(TextFault::BadToken(at(1, 8))));
     assert!(rt; refused(alloc, b"gimple 1; !") == Some(TextFault::BadByte(at(1, 11))));
     let extra = b"gimple 1; i32 main() { <bb 2>: return 0; } x";
     assert!(rt; refused(alloc, extra) == Some(TextFault::BadToken(at(1, 44))));
@@ -91,6 +113,14 @@ fn canonical_texts_come_back(rt: HostRuntime) -> Result<(), Fail> {
     let minimal = read(alloc, loose).ok_or("the text is a program")?;
     assert!(rt; print(alloc, &minimal).ok().ok_or("memory")?.as_slice() == MINIMAL);
     assert!(rt; read(alloc, b"gimple 1; // $").is_some());
+    Ok(())
+}
+
+#[test]
+fn indirect_calls_come_back(rt: HostRuntime) -> Result<(), Fail> {
+    let alloc = rt.alloc();
+    let program = read(alloc, INDIRECT_CALL).ok_or("the text is a program")?;
+    assert!(rt; print(alloc, &program).ok().ok_or("memory")?.as_slice() == INDIRECT_CALL);
     Ok(())
 }
 

@@ -1,6 +1,7 @@
 -- How long the fronts of bytes are.
 use Rattle.std.proofs.Common.{◌≡◌, ℕ, ◌≤◌, ◌<◌, Bool, true, false, [], ◌∷◌, length, refl, arith, inl, inr, ◌⊎◌}
-use Rattle.gimple_tokens.specs.Lexing.{Bytes, back, front, AllPass}
+use Rattle.gimple_ir.specs.Names.{Bytes, AllPass}
+use Rattle.gimple_tokens.specs.Lexing.{back, front}
 
 pub test : (b : Bool) → (b ≡ true) ⊎ (b ≡ false)
 test true = inl refl

@@ -5,5 +5,6 @@ pub mod OneList
 pub mod Real
 pub mod Pieces
 pub mod SpotLaws
+pub mod KeywordLaws
 pub mod NameLaws
 pub mod Nexts

@@ -5,7 +5,8 @@ use Rattle.std.proofs.Math.Seq.{take-length}
 use Rattle.gimple_tokens.specs.declared.token.Token.{Token}
 use Rattle.gimple_tokens.specs.declared.next.Cursor.{Cursor}
 use Rattle.gimple_tokens.specs.declared.next.Next.TheVariants as next
-use Rattle.gimple_tokens.specs.Lexing.{Bytes, skip, token_at}
+use Rattle.gimple_ir.specs.Names.{Bytes}
+use Rattle.gimple_tokens.specs.Lexing.{skip, token_at}
 use Rattle.gimple_tokens.specs.Next.{cursor_left, next_by, next_from, next_at}
 use Rattle.gimple_tokens.proofs.Runs.{takes, skip_length}
 

@@ -1,7 +1,8 @@
 -- Bytes have one list of tokens.
 use Rattle.std.proofs.Common.{◌≡◌, List, [], ◌∷◌, ◌++◌, false, Option, Some, None, refl, sym, ap, subst, ◌∙◌, inl, inr, ◌⊎◌}
 use Rattle.gimple_tokens.specs.declared.token.Token.{Token}
-use Rattle.gimple_tokens.specs.Lexing.{Bytes, LexesFrom, LexesUpTo, token_at, skip}
+use Rattle.gimple_ir.specs.Names.{Bytes}
+use Rattle.gimple_tokens.specs.Lexing.{LexesFrom, LexesUpTo, token_at, skip}
 
 abbrev found : Token → Bytes → Option (Token × Bytes)
 found t bs = Some (t, bs)

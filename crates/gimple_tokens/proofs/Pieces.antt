@@ -8,7 +8,9 @@ use Rattle.std.specs.Fmt.{decimal}
 use Rattle.gimple_tokens.specs.declared.token.Symbol.{Symbol}
 use Rattle.gimple_tokens.specs.declared.token.Token.{Token}
 use Rattle.gimple_tokens.specs.declared.token.Token.TheVariants as tok
-use Rattle.gimple_tokens.specs.Lexing.{Bytes, is_digit, starts_name, goes_on_name, skip, front, back, keyword, word, word_at, token_at, Lexes, AllPass, IsNameText, number_after, number_token}
+use Rattle.gimple_ir.specs.Names.{Bytes, is_digit, starts_name, goes_on_name, AllPass, IsNameText}
+use Rattle.gimple_tokens.specs.Lexing.{skip, front, back, keyword, word, word_at, token_at, Lexes, number_after, number_token}
+use Rattle.gimple_tokens.proofs.KeywordLaws.{no_keyword}
 
 -- the next byte does not pass
 abbrev pub Stops : (ℕ → Bool) → Bytes → Type 0
@@ -49,7 +51,7 @@ word_lexes b bs rest ts starts pass stop l =
 
 pub name_lexes : (x rest : Bytes) (ts : List Token) → IsNameText x → Stops goes_on_name rest → Lexes rest ts → Lexes (x ++ rest) (tok.Name x ∷ ts)
 name_lexes [] rest ts h stop l = absurd h
-name_lexes (b ∷ bs) rest ts h stop l = subst (λ o. Lexes (b ∷ (bs ++ rest)) (word (b ∷ bs) o ∷ ts)) h.2 (word_lexes b bs rest ts h.0 h.1 stop l)
+name_lexes (b ∷ bs) rest ts h stop l = subst (λ o. Lexes (b ∷ (bs ++ rest)) (word (b ∷ bs) o ∷ ts)) (no_keyword (b ∷ bs) h.2) (word_lexes b bs rest ts h.0 h.1 stop l)
 
 pub keyword_lexes : (b : ℕ) (bs : Bytes) (x : Symbol) (rest : Bytes) (ts : List Token) → keyword (b ∷ bs) ≡ Some x → starts_name b ≡ true → AllPass goes_on_name bs → Stops goes_on_name rest → Lexes rest ts → Lexes (b ∷ (bs ++ rest)) (tok.Fixed x ∷ ts)
 keyword_lexes b bs x rest ts e starts pass stop l = subst (λ o. Lexes (b ∷ (bs ++ rest)) (word (b ∷ bs) o ∷ ts)) e (word_lexes b bs rest ts starts pass stop l)

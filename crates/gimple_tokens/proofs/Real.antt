@@ -3,8 +3,10 @@ use Rattle.std.proofs.Common.{◌≡◌, ℕ, ◌<◌, ◌^◌, nat_le, true, fa
 use Rattle.std.proofs.lemmas.Bool.Decides.{nat_tests}
 use Rattle.gimple_tokens.specs.declared.token.Symbol.{Symbol}
 use Rattle.gimple_tokens.specs.declared.token.Token.{Token}
-use Rattle.gimple_tokens.specs.Lexing.{Bytes, front, AllPass, skip, starts_name, goes_on_name, is_digit, keyword, word, number_after, number_token, mark, mark_at, pair_mark, begins_pair, paired_at, one_mark, longer_mark, word_at, number_at, token_at, LexesFrom, LexesUpTo, IsReal, AllReal}
+use Rattle.gimple_ir.specs.Names.{Bytes, AllPass, starts_name, goes_on_name, is_digit}
+use Rattle.gimple_tokens.specs.Lexing.{front, skip, keyword, word, number_after, number_token, mark, mark_at, pair_mark, begins_pair, paired_at, one_mark, longer_mark, word_at, number_at, token_at, LexesFrom, LexesUpTo, IsReal, AllReal}
 use Rattle.gimple_tokens.proofs.Fronts.{test, front_passes}
+use Rattle.gimple_tokens.proofs.KeywordLaws.{no_symbol}
 
 abbrev RealAt : Option (Token × Bytes) → Type 0
 RealAt None = Unit {0}
@@ -32,7 +34,7 @@ number_real : (n : ℕ) → IsReal (number_token n)
 number_real n = elim (test (nat_le n 18446744073709551615)) [ inl e ↦ rw e (below n e) | inr e ↦ rw e tt ]
 
 word_real : (b : ℕ) (bs : Bytes) → starts_name b ≡ true → AllPass goes_on_name bs → (o : Option Symbol) → keyword (b ∷ bs) ≡ o → IsReal (word (b ∷ bs) o)
-word_real b bs h k None e = (h, k, e)
+word_real b bs h k None e = (h, k, no_symbol (b ∷ bs) e)
 word_real b bs h k (Some x) e = tt
 
 some_word_real : (w : Bytes) (b : ℕ) (bs : Bytes) → w ≡ b ∷ bs → starts_name b ≡ true → AllPass goes_on_name bs → IsReal (word w (keyword w))

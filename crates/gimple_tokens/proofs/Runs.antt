@@ -2,7 +2,8 @@
 use Rattle.std.proofs.Common.{◌≡◌, ℕ, suc, ◌+◌, ◌-◌, ◌≤◌, ◌<◌, ◌==◌, ◌&&◌, Bool, true, false, not, List, [], ◌∷◌, ◌++◌, length, Option, Some, None, refl, arith, ap, ◌∙◌, inl, inr}
 use Rattle.gimple_tokens.specs.declared.token.Symbol.{Symbol}
 use Rattle.gimple_tokens.specs.declared.token.Token.{Token}
-use Rattle.gimple_tokens.specs.Lexing.{Bytes, skip, is_blank, starts_name, goes_on_name, is_digit, next_is, mark, mark_at, pair_mark, begins_pair, paired_at, one_mark, longer_mark, token_at, LexesFrom, LexesUpTo}
+use Rattle.gimple_ir.specs.Names.{Bytes, starts_name, goes_on_name, is_digit}
+use Rattle.gimple_tokens.specs.Lexing.{skip, is_blank, next_is, mark, mark_at, pair_mark, begins_pair, paired_at, one_mark, longer_mark, token_at, LexesFrom, LexesUpTo}
 use Rattle.gimple_tokens.specs.Front.{Front, step, walk}
 use Rattle.gimple_tokens.proofs.Fronts.{back_length, test}
 

@@ -2,7 +2,7 @@
 use Rattle.std.proofs.Common.{◌≡◌, ℕ, zero, suc, ◌+◌, ◌-◌, ◌≤◌, ◌==◌, [], ◌∷◌, length, take, drop, refl, ap, ◌∙◌, arith, length-drop, inl, inr}
 use Rattle.std.proofs.lemmas.List.{length-take-le}
 use Rattle.gimple_tokens.specs.declared.spot.Spot.{Spot}
-use Rattle.gimple_tokens.specs.Lexing.{Bytes}
+use Rattle.gimple_ir.specs.Names.{Bytes}
 use Rattle.gimple_tokens.specs.Spots.{start, spot_past, spot_after, spot_at}
 use Rattle.gimple_tokens.proofs.Fronts.{test}
 

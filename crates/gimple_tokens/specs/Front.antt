@@ -1,7 +1,8 @@
 -- The tokens of bytes up to the end or the first byte that begins none.
 use Rattle.std.specs.Prelude.{◌≡◌, ℕ, zero, suc, List, length, false, Option, Some, None}
 use Rattle.gimple_tokens.specs.declared.token.Token.{Token}
-use Rattle.gimple_tokens.specs.Lexing.{Bytes, LexesUpTo, token_at, skip}
+use Rattle.gimple_ir.specs.Names.{Bytes}
+use Rattle.gimple_tokens.specs.Lexing.{LexesUpTo, token_at, skip}
 
 pub record Front (bs : Bytes) (ts : List Token) (left : ℕ) : Type 0 where
   pub rest : Bytes

@@ -1,29 +1,16 @@
 -- The tokens of bytes.
 use Rattle.std.specs.Prelude.{◌≡◌, ◌≢◌, ℕ, ◌+◌, ◌-◌, ◌*◌, ◌<◌, ◌^◌, ◌==◌, nat_le, Bool, true, false, not, ◌&&◌, ◌||◌, if◌then◌else◌, List, [], ◌∷◌, Option, Some, None, codes}
 use Rattle.std.specs.Str.{bytes_eq}
+use Rattle.gimple_ir.specs.Names.{Bytes, is_digit, starts_name, goes_on_name, IsNameText}
 use Rattle.gimple_tokens.specs.declared.token.Symbol.{Symbol}
 use Rattle.gimple_tokens.specs.declared.token.Symbol.TheVariants as s
 use Rattle.gimple_tokens.specs.declared.token.Token.{Token}
 use Rattle.gimple_tokens.specs.declared.token.Token.TheVariants as tok
 
-abbrev pub Bytes : Type 0
-Bytes = List ℕ
-
--- ---- kinds of bytes
+-- ---- fronts of bytes
 
 abbrev pub is_blank : ℕ → Bool
 is_blank b = b == 32 || b == 9 || b == 10 || b == 13
-
-abbrev pub is_digit : ℕ → Bool
-is_digit b = nat_le 48 b && nat_le b 57
-
-abbrev pub starts_name : ℕ → Bool
-starts_name b = (nat_le 97 b && nat_le b 122) || (nat_le 65 b && nat_le b 90) || b == 95
-
-abbrev pub goes_on_name : ℕ → Bool
-goes_on_name b = starts_name b || is_digit b || b == 46
-
--- ---- fronts of bytes
 
 -- the next byte is this one
 abbrev pub next_is : ℕ → Bytes → Bool
@@ -47,33 +34,30 @@ back p (b ∷ bs) = if p b then back p bs else b ∷ bs
 
 -- ---- words
 
-unfoldable pub same : Bytes → Bytes → Bool
-same = bytes_eq
-
 abbrev pub declaration_word : Bytes → Option Symbol
-declaration_word w = if same w (codes "gimple") then Some s.Gimple else (if same w (codes "struct") then Some s.Struct else (if same w (codes "global") then Some s.Global
-    else (if same w (codes "const") then Some s.Const else (if same w (codes "local") then Some s.Local else (if same w (codes "void") then Some s.Void else None)))))
+declaration_word w = if bytes_eq w (codes "gimple") then Some s.Gimple else (if bytes_eq w (codes "struct") then Some s.Struct else (if bytes_eq w (codes "global") then Some s.Global
+    else (if bytes_eq w (codes "const") then Some s.Const else (if bytes_eq w (codes "local") then Some s.Local else (if bytes_eq w (codes "void") then Some s.Void else None)))))
 
 abbrev pub scalar_word : Bytes → Option Symbol
-scalar_word w = if same w (codes "i8") then Some s.I8 else (if same w (codes "i16") then Some s.I16 else (if same w (codes "i32") then Some s.I32 else (if same w (codes "i64") then Some s.I64
-    else (if same w (codes "u8") then Some s.U8 else (if same w (codes "u16") then Some s.U16 else (if same w (codes "u32") then Some s.U32 else (if same w (codes "u64") then Some s.U64
-    else (if same w (codes "ptr") then Some s.Ptr else None))))))))
+scalar_word w = if bytes_eq w (codes "i8") then Some s.I8 else (if bytes_eq w (codes "i16") then Some s.I16 else (if bytes_eq w (codes "i32") then Some s.I32 else (if bytes_eq w (codes "i64") then Some s.I64
+    else (if bytes_eq w (codes "u8") then Some s.U8 else (if bytes_eq w (codes "u16") then Some s.U16 else (if bytes_eq w (codes "u32") then Some s.U32 else (if bytes_eq w (codes "u64") then Some s.U64
+    else (if bytes_eq w (codes "ptr") then Some s.Ptr else None))))))))
 
 abbrev pub statement_word : Bytes → Option Symbol
-statement_word w = if same w (codes "MEM") then Some s.Mem else (if same w (codes "null") then Some s.Null else (if same w (codes "getint") then Some s.Getint
-    else (if same w (codes "putint") then Some s.Putint else (if same w (codes "abort") then Some s.Abort else None))))
+statement_word w = if bytes_eq w (codes "MEM") then Some s.Mem else (if bytes_eq w (codes "null") then Some s.Null else (if bytes_eq w (codes "getint") then Some s.Getint
+    else (if bytes_eq w (codes "putint") then Some s.Putint else (if bytes_eq w (codes "abort") then Some s.Abort else None))))
 
 abbrev pub end_word : Bytes → Option Symbol
-end_word w = if same w (codes "bb") then Some s.Bb else (if same w (codes "goto") then Some s.Goto else (if same w (codes "if") then Some s.If else (if same w (codes "else") then Some s.Else
-    else (if same w (codes "switch") then Some s.Switch else (if same w (codes "case") then Some s.Case else (if same w (codes "default") then Some s.Default
-    else (if same w (codes "return") then Some s.Return else None)))))))
+end_word w = if bytes_eq w (codes "bb") then Some s.Bb else (if bytes_eq w (codes "goto") then Some s.Goto else (if bytes_eq w (codes "if") then Some s.If else (if bytes_eq w (codes "else") then Some s.Else
+    else (if bytes_eq w (codes "switch") then Some s.Switch else (if bytes_eq w (codes "case") then Some s.Case else (if bytes_eq w (codes "default") then Some s.Default
+    else (if bytes_eq w (codes "return") then Some s.Return else None)))))))
 
 abbrev pub first_of_two : Option Symbol → Option Symbol → Option Symbol
 first_of_two (Some x) o = Some x
 first_of_two None o = o
 
 -- the keyword that a word is, where it is one
-abbrev pub keyword : Bytes → Option Symbol
+unfoldable pub keyword : Bytes → Option Symbol
 keyword w = first_of_two (declaration_word w) (first_of_two (scalar_word w) (first_of_two (statement_word w) (end_word w)))
 
 abbrev pub word : Bytes → Option Symbol → Token
@@ -157,10 +141,6 @@ LexesUpTo bs (t ∷ ts) rest = (mid : Bytes) × (token_at bs ≡ Some (t, mid)) 
 
 -- ---- names
 
-abbrev pub AllPass : (ℕ → Bool) → Bytes → Type 0
-AllPass p [] = Unit {0}
-AllPass p (b ∷ bs) = (p b ≡ true) × AllPass p bs
-
 abbrev pub all_pass : (ℕ → Bool) → Bytes → Bool
 all_pass p [] = true
 all_pass p (b ∷ bs) = if p b then all_pass p bs else false
@@ -168,11 +148,6 @@ all_pass p (b ∷ bs) = if p b then all_pass p bs else false
 -- digits, and no more than fit in 64 bits
 abbrev pub IsNumeral : Bytes → Type 0
 IsNumeral bs = (bs ≢ []) × (all_pass is_digit bs ≡ true) × (number_after 0 bs < 2 ^ 64)
-
--- a name, and no keyword
-abbrev pub IsNameText : Bytes → Type 0
-IsNameText [] = ⊥
-IsNameText (b ∷ bs) = (starts_name b ≡ true) × AllPass goes_on_name bs × (keyword (b ∷ bs) ≡ None)
 
 abbrev pub is_none : Option Symbol → Bool
 is_none None = true

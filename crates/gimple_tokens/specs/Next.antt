@@ -4,7 +4,8 @@ use Rattle.gimple_tokens.specs.declared.token.Token.{Token}
 use Rattle.gimple_tokens.specs.declared.next.Cursor.{Cursor}
 use Rattle.gimple_tokens.specs.declared.next.Next.{Next}
 use Rattle.gimple_tokens.specs.declared.next.Next.TheVariants as next
-use Rattle.gimple_tokens.specs.Lexing.{Bytes, skip, token_at}
+use Rattle.gimple_ir.specs.Names.{Bytes}
+use Rattle.gimple_tokens.specs.Lexing.{skip, token_at}
 use Rattle.gimple_tokens.specs.Spots.{spot_at}
 
 -- the place where so many bytes are left

@@ -1,7 +1,7 @@
 -- Lines and columns.
 use Rattle.std.specs.Prelude.{ℕ, ◌+◌, ◌-◌, ◌==◌, if◌then◌else◌, [], ◌∷◌, length, take}
 use Rattle.gimple_tokens.specs.declared.spot.Spot.{Spot}
-use Rattle.gimple_tokens.specs.Lexing.{Bytes}
+use Rattle.gimple_ir.specs.Names.{Bytes}
 
 -- both count from 1
 abbrev pub start : Spot

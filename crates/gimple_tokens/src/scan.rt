@@ -2,6 +2,8 @@
 
 ghost use Rattle.std.specs.Prelude.{◌≡◌, ◌+◌, ◌*◌, ◌<◌, ◌^◌, false, length, Some, option_map};
 ghost use Rattle.std.specs.Option.{SomeIff};
+ghost use Rattle.std.specs.Str.{bytes_eq};
+ghost use Rattle.gimple_ir.specs.Names as names;
 ghost use Rattle.gimple_tokens.specs.Lexing as spec;
 
 use crate::token::{Symbol, Token, Word};
@@ -13,19 +15,19 @@ fn is_blank(b: u8) -> bool
 }
 
 pub fn is_digit(b: u8) -> bool
-    ensures { result ≡ spec.is_digit b }
+    ensures { result ≡ names.is_digit b }
 {
     48 <= b && b <= 57
 }
 
 pub fn starts_name(b: u8) -> bool
-    ensures { result ≡ spec.starts_name b }
+    ensures { result ≡ names.starts_name b }
 {
     97 <= b && b <= 122 || 65 <= b && b <= 90 || b == b'_'
 }
 
 pub fn goes_on_name(b: u8) -> bool
-    ensures { result ≡ spec.goes_on_name b }
+    ensures { result ≡ names.goes_on_name b }
 {
     starts_name(b) || is_digit(b) || b == b'.'
 }
@@ -59,8 +61,8 @@ pub fn skip(bytes: &[u8]) -> &[u8]
 }
 
 fn split_name(bytes: &[u8]) -> (&[u8], &[u8])
-    ensures front { result.0.now ≡ spec.front spec.goes_on_name bytes.now }
-    ensures back { result.1.now ≡ spec.back spec.goes_on_name bytes.now }
+    ensures front { result.0.now ≡ spec.front names.goes_on_name bytes.now }
+    ensures back { result.1.now ≡ spec.back names.goes_on_name bytes.now }
 {
     let mut n = 0;
     while n < bytes.len() && goes_on_name(bytes[n]) {
@@ -70,8 +72,8 @@ fn split_name(bytes: &[u8]) -> (&[u8], &[u8])
 }
 
 fn split_digits(bytes: &[u8]) -> (&[u8], &[u8])
-    ensures front { result.0.now ≡ spec.front spec.is_digit bytes.now }
-    ensures back { result.1.now ≡ spec.back spec.is_digit bytes.now }
+    ensures front { result.0.now ≡ spec.front names.is_digit bytes.now }
+    ensures back { result.1.now ≡ spec.back names.is_digit bytes.now }
 {
     let mut n = 0;
     while n < bytes.len() && is_digit(bytes[n]) {
@@ -80,9 +82,8 @@ fn split_digits(bytes: &[u8]) -> (&[u8], &[u8])
     bytes.split_at(n)
 }
 
-#[tactic(auto, unfolding(crate::specs::Lexing::same))]
 fn same(text: &[u8], other: &[u8]) -> bool
-    ensures { result ≡ spec.same text.now other.now }
+    ensures { result ≡ bytes_eq text.now other.now }
 {
     text == other
 }
@@ -194,6 +195,7 @@ fn small_word(word: &[u8]) -> Option<Symbol>
 }
 
 // The keyword that a word is, where it is one.
+#[tactic(auto, unfolding(crate::specs::Lexing::keyword))]
 pub fn keyword(word: &[u8]) -> Option<Symbol>
     ensures { result ≡ spec.keyword word.now }
 {

@@ -2,12 +2,13 @@
 
 ghost use Rattle.std.specs.Prelude.{◌≡◌, ◌↔◌, IsTrue};
 ghost use Rattle.std.specs.Option.{SomeIff};
+ghost use Rattle.gimple_ir.specs.Names as names;
 ghost use Rattle.gimple_tokens.specs.Lexing as spec;
 
 use crate::scan::{goes_on_name, is_digit, keyword, starts_name, value};
 
 fn all_digits(bytes: &[u8]) -> bool
-    ensures { result ≡ spec.all_pass spec.is_digit bytes.now }
+    ensures { result ≡ spec.all_pass names.is_digit bytes.now }
 {
     let mut rest = bytes;
     while let [b, after @ ..] = rest {
@@ -20,7 +21,7 @@ fn all_digits(bytes: &[u8]) -> bool
 }
 
 fn all_go_on(bytes: &[u8]) -> bool
-    ensures { result ≡ spec.all_pass spec.goes_on_name bytes.now }
+    ensures { result ≡ spec.all_pass names.goes_on_name bytes.now }
 {
     let mut rest = bytes;
     while let [b, after @ ..] = rest {
@@ -55,7 +56,7 @@ fn name_text(bytes: &[u8]) -> bool
 
 /// Whether the bytes are a name, and no keyword. Takes no memory.
 pub fn is_name(bytes: &[u8]) -> bool
-    ensures { IsTrue result ↔ spec.IsNameText bytes.now }
+    ensures { IsTrue result ↔ names.IsNameText bytes.now }
 {
     name_text(bytes)
 }

@@ -1,5 +1,5 @@
 -- Readers of one token.
-use Rattle.std.proofs.Common.{◌≡◌, ℕ, ◌==◌, Bool, true, false, not, cond, List, [], ◌∷◌, length, Option, Some, None, Ok, Err, refl, sym, ap, ◌∙◌, lit<, rules, inl, inr}
+use Rattle.std.proofs.Common.{◌≡◌, ℕ, ◌==◌, Bool, true, false, not, ◌||◌, cond, List, [], ◌∷◌, length, Option, Some, None, Ok, Err, refl, sym, ap, subst, ◌∙◌, lit<, rules, inl, inr, ◌⊎◌}
 use Rattle.std.proofs.lemmas.Bool.{eqb-true}
 use Rattle.std.specs.Option.{is_some}
 use denote.Enum.Bare.{sameb, same_true, true_same}
@@ -8,8 +8,10 @@ use Rattle.gimple_tokens.specs.declared.token.Token.{Token}
 use Rattle.gimple_tokens.specs.declared.token.Token.TheVariants as tok
 use Rattle.gimple_tokens.specs.contracts.token.Symbol.{the_type}
 use Rattle.std.specs.Prelude.{codes}
-use Rattle.gimple_tokens.specs.Lexing.{same, IsNameText, IsReal}
-use Rattle.token_law.specs.Reading.{Tokens, Outcome, Parser, pure, choose, keyed, sees, sees_name, not_before, leaf_at, leaf, of_symbol, lookup, one_of, sees_one, fixed, name, number, one, end_of_text}
+use Rattle.gimple_ir.specs.Spellable.{IsProfile}
+use Rattle.gimple_ir.specs.Names.{is_keyword, IsNameText}
+use Rattle.gimple_tokens.specs.Lexing.{IsReal}
+use Rattle.token_law.specs.Reading.{Tokens, Outcome, Parser, pure, choose, keyed, sees, sees_name, not_before, leaf_at, leaf, of_symbol, lookup, one_of, sees_one, fixed, name, number, is_profile, profile_number, end_of_text}
 use Rattle.token_law.proofs.ReadsExactly.{ReadsExactly, IsHeadTest, IsEither, IsPure, Avoids, pure_exact, then_exact, choose_exact, never, ok_parts, test_cases, recast}
 
 -- ---- tests of the next token
@@ -164,7 +166,7 @@ name_is tok.Huge x e = absurd cc
 name_is (tok.Fixed y) x e = absurd cc
 
 letter : IsNameText (codes "a")
-unfolding same
+unfolding is_keyword
 letter = (refl, tt, refl)
 
 pub name_exact : ReadsExactly name IsName never
@@ -198,31 +200,60 @@ number_exact = recast (leaf_exact number number_of number_leaf 0 (tok.Number 0) 
 
 -- ---- the number of the header, and the end
 
-abbrev pub IsOne : Unit {0} → Tokens → Type 0
-IsOne a ts = ts ≡ tok.Number 1 ∷ []
+abbrev pub IsHeader : ℕ → Tokens → Type 0
+IsHeader n ts = IsProfile n × (ts ≡ tok.Number n ∷ [])
 
-abbrev value_of_one : Token → Option (Unit {0})
-value_of_one (tok.Name n) = None
-value_of_one (tok.Number n) = if_true (n == 1)
-value_of_one tok.Huge = None
-value_of_one (tok.Fixed y) = None
+abbrev number_if : Bool → ℕ → Option ℕ
+number_if b n = cond b (Some n) None
 
-one_leaf : (ts : Tokens) → one ts ≡ leaf value_of_one ts
-unfolding one
-one_leaf [] = refl
-one_leaf (tok.Name n ∷ m) = refl
-one_leaf (tok.Number n ∷ m) = fixed_by (n == 1) (tok.Number n) m
-one_leaf (tok.Huge ∷ m) = refl
-one_leaf (tok.Fixed y ∷ m) = refl
+abbrev read_number_if : Bool → ℕ → Tokens → Outcome ℕ
+read_number_if b n m = cond b (Ok (n, m)) (Err (length (tok.Number n ∷ m)))
 
-one_is : (u : Token) (a : Unit {0}) → value_of_one u ≡ Some a → u ≡ tok.Number 1
-one_is (tok.Name n) a e = absurd cc
-one_is (tok.Number n) a e = ap tok.Number (eqb-true n 1 (some_if (n == 1) a e))
-one_is tok.Huge a e = absurd cc
-one_is (tok.Fixed y) a e = absurd cc
+abbrev profile_of : Token → Option ℕ
+profile_of (tok.Name n) = None
+profile_of (tok.Number n) = number_if (is_profile n) n
+profile_of tok.Huge = None
+profile_of (tok.Fixed y) = None
 
-pub one_exact : ReadsExactly one IsOne never
-one_exact = recast (leaf_exact one value_of_one one_leaf tt (tok.Number 1) refl (lit< tt)) (λ a ts h. h.2 ∙ ap (λ u. u ∷ []) (one_is h.0 a h.1)) (λ a ts h. (tok.Number 1, refl, h))
+profile_by : (b : Bool) (n : ℕ) (m : Tokens) → read_number_if b n m ≡ leaf_at (number_if b n) (tok.Number n) m
+profile_by true n m = refl
+profile_by false n m = refl
+
+profile_leaf : (ts : Tokens) → profile_number ts ≡ leaf profile_of ts
+unfolding profile_number
+profile_leaf [] = refl
+profile_leaf (tok.Name n ∷ m) = refl
+profile_leaf (tok.Number n ∷ m) = profile_by (is_profile n) n m
+profile_leaf (tok.Huge ∷ m) = refl
+profile_leaf (tok.Fixed y ∷ m) = refl
+
+number_was : (b : Bool) (n x : ℕ) → number_if b n ≡ Some x → (b ≡ true) × (n ≡ x)
+number_was true n x e = (refl, cc)
+number_was false n x e = absurd cc
+
+or_cases : (a b : Bool) → (a || b) ≡ true → (a ≡ true) ⊎ (b ≡ true)
+or_cases true b e = inl refl
+or_cases false b e = inr e
+
+tested : (n : ℕ) → is_profile n ≡ true → IsProfile n
+tested n e = elim (or_cases (n == 1) (n == 2) e) [ inl h ↦ inl (eqb-true n 1 h) | inr h ↦ inr (eqb-true n 2 h) ]
+
+tests : (n : ℕ) → IsProfile n → is_profile n ≡ true
+tests n h = elim h [ inl e ↦ rw e refl | inr e ↦ rw e refl ]
+
+profile_is : (u : Token) (x : ℕ) → profile_of u ≡ Some x → IsProfile x × (u ≡ tok.Number x)
+profile_is (tok.Name n) x e = absurd cc
+profile_is (tok.Number n) x e = let h = number_was (is_profile n) n x e in (subst IsProfile h.1 (tested n h.0), ap tok.Number h.1)
+profile_is tok.Huge x e = absurd cc
+profile_is (tok.Fixed y) x e = absurd cc
+
+profile_found : (n : ℕ) → IsProfile n → profile_of (tok.Number n) ≡ Some n
+profile_found n h = rw (tests n h) refl
+
+pub profile_exact : ReadsExactly profile_number IsHeader never
+profile_exact = recast (leaf_exact profile_number profile_of profile_leaf 1 (tok.Number 1) refl (lit< tt))
+    (λ x ts h. let v = profile_is h.0 x h.1 in (v.0, h.2 ∙ ap (λ u. u ∷ []) v.1))
+    (λ x ts h. (tok.Number x, profile_found x h.0, h.1))
 
 abbrev pub is_more : Tokens → Bool
 is_more [] = false

@@ -1,6 +1,6 @@
 -- Readers that read a language exactly: what they read is in it, what is in it they read, and where they fail the
 -- tokens so far begin something of it, and no longer do with the next one.
-use Rattle.std.proofs.Common.{◌≡◌, ℕ, Bool, true, false, [], ◌∷◌, ◌++◌, length, Ok, Err, refl, sym, ap, ◌∙◌, append_assoc, inl, inr, ◌⊎◌}
+use Rattle.std.proofs.Common.{◌≡◌, ℕ, Bool, true, false, cond, ◌&&◌, [], ◌∷◌, ◌++◌, length, Ok, Err, refl, sym, ap, subst, ◌∙◌, append_assoc, inl, inr, ◌⊎◌}
 use Rattle.gimple_tokens.specs.declared.token.Token.{Token}
 use Rattle.gimple_tokens.specs.Lexing.{AllReal}
 use Rattle.token_law.specs.Reading.{Tokens, Outcome, Parser, and_then, ◌>>=◌, pure, choose}
@@ -245,6 +245,33 @@ module _ {A : Type 0} (starts : Tokens → Bool) (head : IsHeadTest starts) (p q
         ];
     member = record { value = ep.member.value; more = ep.member.more; real = ep.member.real; spelled = inl ep.member.spelled };
   }
+
+-- ---- a form that is read where it is allowed
+
+abbrev pub IsAllowed : {A : Type 0} → Bool → (A → Tokens → Type 0) → A → Tokens → Type 0
+IsAllowed b S a ts = (b ≡ true) × S a ts
+
+and_true : (b : Bool) → b ≡ (b && true)
+and_true true = refl
+and_true false = refl
+
+and_false : (b : Bool) → false ≡ (b && false)
+and_false true = refl
+and_false false = refl
+
+module _ {A : Type 0} (starts : Tokens → Bool) (head : IsHeadTest starts) (p q : Parser A) (S T : A → Tokens → Type 0) (m : Tokens → Bool) where
+  pub allowed_exact : (b : Bool) → ReadsExactly p S m → ReadsExactly q T m → ((a : A) (pre rest : Tokens) → S a pre → m rest ≡ false → starts (pre ++ rest) ≡ true) → ((a : A) (pre rest : Tokens) → T a pre → m rest ≡ false → starts (pre ++ rest) ≡ false)
+      → ReadsExactly (choose (λ ts. starts ts && b) p q) (IsEither (IsAllowed b S) T) m
+  allowed_exact true ep eq first second =
+      let e : choose starts p q ≡ choose (λ ts. starts ts && true) p q = λ i ts. cond (and_true (starts ts) i) (p ts) (q ts) in
+      subst (λ r. ReadsExactly r (IsEither (IsAllowed true S) T) m) e (recast (choose_exact starts head p q S T m ep eq first second)
+      (λ a ts h. elim h [ inl s ↦ inl (refl, s) | inr t ↦ inr t ])
+      (λ a ts h. elim h [ inl s ↦ inl s.1 | inr t ↦ inr t ]))
+  allowed_exact false ep eq first second =
+      let e : q ≡ choose (λ ts. starts ts && false) p q = λ i ts. cond (and_false (starts ts) i) (p ts) (q ts) in
+      subst (λ r. ReadsExactly r (IsEither (IsAllowed false S) T) m) e (recast eq
+      (λ a ts t. inr t)
+      (λ a ts h. elim h [ inl s ↦ let f : false ≡ true = s.0 in absurd cc | inr t ↦ t ]))
 
 -- ---- what a language does not begin with
 

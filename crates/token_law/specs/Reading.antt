@@ -1,5 +1,5 @@
 -- Reading from left to right. A reader answers a value and the tokens after it, or how many tokens are left at the fault.
-use Rattle.std.specs.Prelude.{◌≡◌, ℕ, zero, suc, ◌==◌, Bool, true, false, not, if◌then◌else◌, List, [], ◌∷◌, ◌++◌, length, drop, Option, Some, None, Result, Ok, Err}
+use Rattle.std.specs.Prelude.{◌≡◌, ℕ, zero, suc, ◌==◌, Bool, true, false, not, ◌||◌, if◌then◌else◌, List, [], ◌∷◌, ◌++◌, length, drop, Option, Some, None, Result, Ok, Err}
 use Rattle.std.specs.Option.{is_some}
 use denote.Enum.Bare.{sameb}
 use Rattle.gimple_tokens.specs.declared.token.Symbol.{Symbol}
@@ -121,12 +121,16 @@ number (tok.Number n ∷ ts) = Ok (n, ts)
 number (tok.Huge ∷ ts) = Err (length (tok.Huge ∷ ts))
 number (tok.Fixed y ∷ ts) = Err (length (tok.Fixed y ∷ ts))
 
-unfoldable pub one : Parser (Unit {0})
-one [] = Err 0
-one (tok.Name n ∷ ts) = Err (length (tok.Name n ∷ ts))
-one (tok.Number n ∷ ts) = if n == 1 then Ok (tt, ts) else Err (length (tok.Number n ∷ ts))
-one (tok.Huge ∷ ts) = Err (length (tok.Huge ∷ ts))
-one (tok.Fixed y ∷ ts) = Err (length (tok.Fixed y ∷ ts))
+-- the profiles are 1 and 2
+abbrev pub is_profile : ℕ → Bool
+is_profile n = n == 1 || n == 2
+
+unfoldable pub profile_number : Parser ℕ
+profile_number [] = Err 0
+profile_number (tok.Name n ∷ ts) = Err (length (tok.Name n ∷ ts))
+profile_number (tok.Number n ∷ ts) = if is_profile n then Ok (n, ts) else Err (length (tok.Number n ∷ ts))
+profile_number (tok.Huge ∷ ts) = Err (length (tok.Huge ∷ ts))
+profile_number (tok.Fixed y ∷ ts) = Err (length (tok.Fixed y ∷ ts))
 
 unfoldable pub end_of_text : Parser (Unit {0})
 end_of_text [] = Ok (tt, [])

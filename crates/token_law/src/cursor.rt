@@ -150,15 +150,19 @@ impl<'a> Cursor<'a> {
         }
     }
 
-    /// Takes the number 1.
-    #[tactic(auto, unfolding(crate::specs::Reading::one))]
-    pub fn one(&mut self) -> Result<(), Fault>
-        ensures { Reads (spec.one self.old) result self.new }
+    /// Takes the number of a profile, 1 or 2.
+    #[tactic(auto, unfolding(crate::specs::Reading::profile_number))]
+    pub fn profile(&mut self) -> Result<u8, Fault>
+        ensures { Reads (spec.profile_number self.old) result self.new }
     {
         match self.rest {
             [Token::Number(1), rest @ ..] => {
                 self.rest = rest;
-                Ok(())
+                Ok(1)
+            }
+            [Token::Number(2), rest @ ..] => {
+                self.rest = rest;
+                Ok(2)
             }
             _ => Err(Fault::At(self.rest.len())),
         }

@@ -5,5 +5,5 @@ use Rattle.gimple_grammar.proofs.bodies.statements.Given as goal
 
 abbrev pub invariant-loop-turn : goal.invariant-loop-turn
 invariant-loop-turn l =
-    many_from begins_statement statement (length l.fn.tokens) [] l.fn.tokens
-    ≡ many_from begins_statement statement (length l.fn.tokens - l._turn) l.found l.tokens
+    many_from (begins_statement l.fn.profile) (statement l.fn.profile) (length l.fn.tokens) [] l.fn.tokens
+    ≡ many_from (begins_statement l.fn.profile) (statement l.fn.profile) (length l.fn.tokens - l._turn) l.found l.tokens

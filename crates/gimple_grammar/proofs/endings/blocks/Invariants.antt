@@ -6,5 +6,5 @@ use Rattle.gimple_grammar.proofs.endings.blocks.Given as goal
 
 abbrev pub invariant-loop-turn : goal.invariant-loop-turn
 invariant-loop-turn l =
-    many_from (sees Less) block (length l.fn.tokens) [] l.fn.tokens
-    ≡ many_from (sees Less) block (length l.fn.tokens - l._turn) l.found l.tokens
+    many_from (sees Less) (block l.fn.profile) (length l.fn.tokens) [] l.fn.tokens
+    ≡ many_from (sees Less) (block l.fn.profile) (length l.fn.tokens - l._turn) l.found l.tokens

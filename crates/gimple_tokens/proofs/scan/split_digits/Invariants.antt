@@ -1,5 +1,6 @@
 use Rattle.std.proofs.Common.{◌≡◌, ◌-◌, ◌≤◌, ◌++◌, take, drop, length}
-use Rattle.gimple_tokens.specs.Lexing.{front, back, is_digit}
+use Rattle.gimple_ir.specs.Names.{is_digit}
+use Rattle.gimple_tokens.specs.Lexing.{front, back}
 use Rattle.gimple_tokens.proofs.scan.split_digits.Given as goal
 
 abbrev pub invariant-loop-n : goal.invariant-loop-n

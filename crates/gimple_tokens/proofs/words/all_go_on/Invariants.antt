@@ -1,5 +1,6 @@
 use Rattle.std.proofs.Common.{◌≡◌, length}
-use Rattle.gimple_tokens.specs.Lexing.{all_pass, goes_on_name}
+use Rattle.gimple_ir.specs.Names.{goes_on_name}
+use Rattle.gimple_tokens.specs.Lexing.{all_pass}
 use Rattle.gimple_tokens.proofs.words.all_go_on.Given as goal
 
 abbrev pub invariant-loop-rest : goal.invariant-loop-rest
