@@ -465,6 +465,6 @@ fn no_function(rt: HostRuntime) -> Result<(), TestFail> {
     assert!(rt; folded_text(alloc, good, 0)?.is_some());
     assert!(rt; folded_text(alloc, good, 1)?.is_none());
     assert!(rt; folded_text(alloc, b"gimple 1;\n", 0)?.is_none());
-    assert!(rt; folded_text(alloc, b"gimple 2;\n", 0)?.is_none());
+    assert!(rt; folded_text(alloc, b"gimple 3;\n", 0)?.is_none());
     Ok(())
 }

@@ -10,8 +10,10 @@ use Rattle.gimple_core.specs.Reach.{IsWithoutUnreached}
 use Rattle.gimple_core.proofs.Dropping.{reached_runs}
 use Rattle.gimple_core.proofs.KeptAccepted.{reached_accepted}
 use Rattle.gimple_text.specs.Parse.{Spells}
-use Rattle.gimple_text.specs.Canon.{canon, IsSpellable}
-use Rattle.gimple_text.proofs.Laws.{canon_spells, filtered_spellable}
+use Rattle.gimple_ir.specs.Spellable.{IsSpellable}
+use Rattle.gimple_ir.proofs.SpellableLaws.{filtered_spellable}
+use Rattle.gimple_text.specs.Canon.{canon}
+use Rattle.gimple_text.proofs.Laws.{canon_spells}
 use Rattle.ipa_driver.specs.declared.passes.Product.{Product}
 use Rattle.ipa_driver.specs.Graph.{IsGraphText}
 use Rattle.ipa_driver.specs.Summary.{measure_of, no_counts, summary_text}

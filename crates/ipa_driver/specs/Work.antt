@@ -4,7 +4,7 @@ use Rattle.shelf.specs.Outside.{Meaning, Rose, RoseBy, OnSource, LacksSource, Te
 use Rattle.words.specs.declared.options.SourceName.{SourceName}
 use Rattle.gimple_ir.specs.declared.program.Program.{Program}
 use Rattle.gimple_core.specs.Sealed.{Sealed}
-use Rattle.gimple_text.specs.Canon.{IsSpellable}
+use Rattle.gimple_ir.specs.Spellable.{IsSpellable}
 use Rattle.gimple_ir.specs.Counts.{IsCountable}
 use Rattle.ipa_driver.specs.declared.tool.Tool.{Tool}
 use Rattle.ipa_driver.specs.declared.finish.Fault.{Fault}

@@ -1,7 +1,7 @@
 //! The texts that a run stores, and the stores.
 
 ghost use Rattle.std.specs.Prelude.{◌≡◌, ◌++◌, IfOk, OnOk, MatchResult};
-ghost use Rattle.gimple_text.specs.Canon.{IsSpellable};
+ghost use Rattle.gimple_ir.specs.Spellable.{IsSpellable};
 ghost use Rattle.gimple_ir.specs.Counts.{IsCountable};
 ghost use Rattle.ipa_driver.specs.Stores.{asked_output, first_outputs, last_outputs, all_outputs, AreOutputs, AreStored, IsStoreFault, StoresOnly, StaysSure};
 

@@ -23,7 +23,7 @@ fn repeated(
 
 #[test]
 fn small_texts(rt: HostRuntime) -> Result<(), TestFail> {
-    let faults: [(&[u8], &str); 24] = [
+    let faults: [(&[u8], &str); 25] = [
         (b"", "a.g:1:1: error: early end\n"),
         (b"\n\n", "a.g:3:1: error: early end\n"),
         (b"// gimple 1;", "a.g:1:13: error: early end\n"),
@@ -31,8 +31,12 @@ fn small_texts(rt: HostRuntime) -> Result<(), TestFail> {
             b"gimple 1;\ni32 main () {\n  i32 x;\n  <bb 2>:\n    if (x <",
             "a.g:5:12: error: early end\n",
         ),
-        (b"gimple 2;", "a.g:1:8: error: bad token\n"),
-        (b"gimple 2;\n", "a.g:1:8: error: bad token\n"),
+        // The text is a program, without a function `main`.
+        (
+            b"gimple 2;",
+            "a.g: program: error: T03 no main or wrong main\n",
+        ),
+        (b"gimple 3;", "a.g:1:8: error: bad token\n"),
         (b"gimple 1;\n$\n", "a.g:2:1: error: bad byte\n"),
         (
             b"gimple 1; i32 main() { <bb 2>: return 0; } x",
@@ -42,8 +46,8 @@ fn small_texts(rt: HostRuntime) -> Result<(), TestFail> {
             b"gimple 18446744073709551616;",
             "a.g:1:8: error: bad token\n",
         ),
-        (b"gimple 2 $", "a.g:1:8: error: bad token\n"),
-        // The text is a program, without a function `main`.
+        (b"gimple 2 $", "a.g:1:10: error: bad byte\n"),
+        (b"gimple 3 $", "a.g:1:8: error: bad token\n"),
         (
             b"gimple 1; // $",
             "a.g: program: error: T03 no main or wrong main\n",
