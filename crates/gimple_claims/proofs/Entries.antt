@@ -3,7 +3,7 @@ use Rattle.std.proofs.Common.{◌+◌, ◌≡◌, ℕ, ℤ, true, List, [], ◌�
 use Rattle.gimple_ir.specs.declared.value.Value.{Value}
 use Rattle.gimple_ir.specs.declared.program.Function.{Function}
 use Rattle.gimple_ir.specs.declared.block.Block.{Block}
-use Rattle.gimple_core.specs.Sealed.{Sealed}
+use Rattle.gimple_core.specs.Sealed.{Sealed, with_functions}
 use Rattle.gimple_ir.specs.declared.statement.Stmt.{Stmt}
 use Rattle.gimple_core.specs.State.{State, scope_of}
 use Rattle.gimple_core.specs.Run.{step, stepped, Did, Reaches, Moves, CallEntry, Calling, call_of, values_of}
@@ -18,7 +18,7 @@ use Rattle.gimple_claims.proofs.Steps.{Steps, called, acts, calls, jumps, leaves
 
 module _ (I : Instances) (Fits : List Event → ℕ → ℕ → Type 0) (p : Sealed) (gs : List Function) (input : List ℤ) (spec : Specialises I Fits p gs input) where
   abbrev q : Sealed
-  q = record p { program = record p.program { functions = gs } }
+  q = with_functions p gs
 
   -- the entry of p's run that an entry of q's run stands beside
   pub record EntryBeside (f : Function) (arguments : List Value) : Type 0 where

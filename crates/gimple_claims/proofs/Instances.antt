@@ -7,7 +7,7 @@ use Rattle.gimple_ir.specs.declared.value.Value.{Value}
 use Rattle.gimple_ir.specs.declared.block.Block.{Block}
 use Rattle.gimple_ir.specs.declared.declarations.Global.{Global}
 use Rattle.gimple_ir.specs.declared.program.Function.{Function}
-use Rattle.gimple_core.specs.Sealed.{Sealed}
+use Rattle.gimple_core.specs.Sealed.{Sealed, with_functions}
 use Rattle.gimple_ir.specs.declared.value.TrapKind.{TrapKind}
 use Rattle.gimple_core.specs.Memory.{without_frame}
 use Rattle.gimple_core.specs.State.{Control, Frame, World, State, Scope, scope_of, setting_of, registers_of}
@@ -22,7 +22,7 @@ use Rattle.gimple_core.proofs.Simulation.{Matches, Does}
 
 module _ (I : Instances) (Fits : List Event → ℕ → ℕ → Type 0) (p : Sealed) (gs : List Function) (input : List ℤ) (spec : Specialises I Fits p gs input) where
   abbrev pub made : Sealed
-  made = record p { program = record p.program { functions = gs } }
+  made = with_functions p gs
 
   pub record AlikeControl (past : List Event) (n : ℕ) (c d : Control) : Type 0 where
     pub number : ℕ

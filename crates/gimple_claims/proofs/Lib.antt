@@ -27,3 +27,5 @@ pub mod Typed
 pub mod Settled
 pub mod Blocks
 pub mod Callees
+pub mod KnownAddresses
+pub mod Addressed

@@ -1,6 +1,6 @@
 -- The functions that values are.
 use Rattle.std.specs.Prelude.{◌≡◌, ℤ, List, Some, None}
-use Rattle.std.specs.List.{AllByRecursion}
+use Rattle.std.specs.List.{All, AllByRecursion}
 use Rattle.gimple_ir.specs.declared.value.Value.{Value}
 use Rattle.gimple_ir.specs.declared.value.Value.TheVariants.{Int, Null, At, Code}
 use Rattle.gimple_ir.specs.declared.program.Function.{Function}
@@ -22,9 +22,9 @@ ValueAddressed p (At object offset) = Unit {0}
 ValueAddressed p (Code name) = ((f : Function) × (function_named name p.functions ≡ Some f)) × IsAddressed p name
 
 pub record StateAddressed (p : Program) (s : State) : Type 0 where
-  pub top : AllByRecursion (ValueAddressed p) s.world.registers
-  pub below : AllByRecursion (λ (f : Frame). AllByRecursion (ValueAddressed p) f.registers) s.below
-  pub memory : AllByRecursion (λ (x : MemorySlot). ValueAddressed p x.value) s.world.memory.slots
+  pub top : All (ValueAddressed p) s.world.registers
+  pub below : AllByRecursion (λ (f : Frame). All (ValueAddressed p) f.registers) s.below
+  pub memory : All (λ (x : MemorySlot). ValueAddressed p x.value) s.world.memory.slots
 
 -- in each state of each run of an accepted program
 abbrev pub FunctionValuesAreAddressed : Type 0

@@ -4,6 +4,7 @@
 ghost use Rattle.gimple_claims.specs.Checks.{FunctionsAreChecked, RunsBegin, NothingIsLost, AbortsOfAbort};
 ghost use Rattle.gimple_claims.specs.Laws.{SerialsGrow, EntriesAreNew, FramesAreLiveCalls, LivingAreOfFrames, DeadStayDead, GlobalsHold, RegistersAreDeclared, SettledRunsStay};
 ghost use Rattle.gimple_claims.specs.Typed.{ValuesAreTyped};
+ghost use Rattle.gimple_claims.specs.Addressed.{FunctionValuesAreAddressed};
 
 /// Each frame and each event so far has a serial below the next one.
 pub fn serials_grow()
@@ -36,7 +37,7 @@ pub fn globals_hold()
     ensures { GlobalsHold }
 {}
 
-/// Each frame has the formals and registers of its function, under their names and scalars.
+/// Each frame has as many registers as its function declares, its formals among them.
 pub fn registers_are_declared()
     ensures { RegistersAreDeclared }
 {}
@@ -51,8 +52,8 @@ pub fn runs_begin()
     ensures { RunsBegin }
 {}
 
-/// In a run of a program without a type fault the callee of each call has a first block, and each block that an end
-/// leads to is there.
+/// In a run of a program without a type fault the function that a call enters has a first block, a call by name enters one,
+/// and each block that an end leads to is there.
 pub fn nothing_is_lost()
     ensures { NothingIsLost }
 {}
@@ -66,6 +67,12 @@ pub fn aborts_are_of_abort()
 /// its scalar.
 pub fn values_are_typed()
     ensures { ValuesAreTyped }
+{}
+
+/// In a run of a program without a type fault each function value in a register or a slot is of a function of the program
+/// whose address is taken there.
+pub fn function_values_are_addressed()
+    ensures { FunctionValuesAreAddressed }
 {}
 
 /// A run that has ended or trapped comes to the same with more transfers.

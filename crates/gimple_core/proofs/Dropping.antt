@@ -25,7 +25,7 @@ use Rattle.gimple_core.specs.Run.{Callee, Named, Through, Calling, call_of, call
 use Rattle.gimple_core.specs.Reach.{operands_of, operands_of_end, TakesAddress, Mentions, MentionsIn, MentionsInBlocks, MentionsInItems, IsReached, IsClosed, with_kept, KeptRuns, ReachedRuns}
 use Rattle.gimple_core.proofs.Simulation.{Matches, Does, Stands, Follows, simulates, runs_same, one}
 use Rattle.gimple_core.proofs.NameLemmas.{same_name_true}
-use Rattle.gimple_core.proofs.FunctionValues.{ValueIn, MemoryIn, OperandsIn, WorldIn, ActedIn, value_at_in, put_at_in, first_in, values_of_in, registers_made_in, with_locals_in, with_globals_in, without_frame_in, act_in, arguments_of_call}
+use Rattle.gimple_core.proofs.FunctionValues.{ValueIn, MemoryIn, WorldIn, ActedIn, value_at_in, put_at_in, first_in, values_of_in, registers_made_in, with_locals_in, with_globals_in, without_frame_in, act_in, arguments_of_call}
 
 -- ---- what stays within a set of names
 
@@ -35,9 +35,13 @@ WithinStmts K xs = (name : List ℕ) → MentionsIn name xs → K name
 abbrev WithinBlocks : (List ℕ → Type 0) → List Block → Type 0
 WithinBlocks K bs = (name : List ℕ) → MentionsInBlocks name bs → K name
 
+-- the addresses among the operands are of the set
+abbrev AddressesIn : (List ℕ → Type 0) → List Operand → Type 0
+AddressesIn K xs = (name : List ℕ) → TakesAddress name xs → K name
+
 record FrameWithin (K : List ℕ → Type 0) (f : Control) : Type 0 where
   rest : WithinStmts K f.rest
-  end : OperandsIn K (operands_of_end f.end)
+  end : AddressesIn K (operands_of_end f.end)
   blocks : WithinBlocks K f.function.blocks
 
 abbrev FramesWithin : (List ℕ → Type 0) → List Frame → Type 0
@@ -98,9 +102,9 @@ enter_within K structs s to vs (Ok f) w a fw = entered_within K structs s to vs 
 
 abbrev BlockWithin : (List ℕ → Type 0) → Option (ℕ × Block) → Type 0
 BlockWithin K None = Unit {0}
-BlockWithin K (Some (k, b)) = WithinStmts K b.body × OperandsIn K (operands_of_end b.end)
+BlockWithin K (Some (k, b)) = WithinStmts K b.body × AddressesIn K (operands_of_end b.end)
 
-block_by : (K : List ℕ → Type 0) (k : ℕ) (b : Block) (o : Option (ℕ × Block)) (here : Bool) → WithinStmts K b.body × OperandsIn K (operands_of_end b.end) → BlockWithin K o → BlockWithin K (if here then Some (k, b) else o)
+block_by : (K : List ℕ → Type 0) (k : ℕ) (b : Block) (o : Option (ℕ × Block)) (here : Bool) → WithinStmts K b.body × AddressesIn K (operands_of_end b.end) → BlockWithin K o → BlockWithin K (if here then Some (k, b) else o)
 block_by K k b o true w more = w
 block_by K k b o false w more = more
 
@@ -130,13 +134,13 @@ returned_within K s o (f ∷ fs) w v fw = record {
   world = record { registers = given_within K f.registers s.top.takes o fw.1 v; memory = without_frame_in K s.top.serial s.world.memory w.world.memory };
 }
 
-finish_within : (K : List ℕ → Type 0) (globals : List Global) (e : End) (s : State) → OperandsIn K (operands_of_end e) → StateWithin K s → ReachesWithin K (finish globals e s)
+finish_within : (K : List ℕ → Type 0) (globals : List Global) (e : End) (s : State) → AddressesIn K (operands_of_end e) → StateWithin K s → ReachesWithin K (finish globals e s)
 finish_within K globals (Goto label) s k w = jump_within K s label w
 finish_within K globals (If l cmp r this that) s k w = jump_within K s _ w
 finish_within K globals (Switch on cases other) s k w = jump_within K s _ w
 finish_within K globals (Return None) s k w = returned_within K s None s.below w tt w.below
 finish_within K globals (Return (Some x)) s k w =
-    returned_within K s (Some (value_of globals (scope_of s.top) s.world.registers x)) s.below w (first_in K globals (scope_of s.top) s.world.registers x [] w.world.registers k) w.below
+    returned_within K s (Some (value_of globals (scope_of s.top) s.world.registers x)) s.below w (first_in K globals (scope_of s.top) s.world.registers x [] w.world.registers (λ name t e. k name t)) w.below
 
 -- ---- the two programs
 
@@ -181,13 +185,14 @@ called_within K p closed scope vs (Through name signature) w k f h = through_wit
 
 -- what a statement mentions is of the set
 record StmtWithin (K : List ℕ → Type 0) (x : Stmt) : Type 0 where
-  operands : OperandsIn K (operands_of x)
+  operands : AddressesIn K (operands_of x)
   calls : (c : Calling) (name : List ℕ) → call_of x ≡ Some c → c.callee ≡ Named name → K name
 
 stmt_same : (K : List ℕ → Type 0) (p : Sealed) (gs : List Function) → Closed K p.program → Agree K p.program.functions gs → (o : Option Calling) (x : Stmt) (s : State) → StateWithin K s → StmtWithin K x → call_of x ≡ o → Does (Same K) (performed (with_functions p gs) o x s) (performed p o x s)
-stmt_same K p gs closed agree None x s w k e = does_itself K s (act (setting_of p) (scope_of s.top) x s.world) w (act_in K (setting_of p) (scope_of s.top) x s.world k.operands w.world)
+stmt_same K p gs closed agree None x s w k e = does_itself K s (act (setting_of p) (scope_of s.top) x s.world) w (act_in K (setting_of p) (scope_of s.top) x s.world (λ name t c. k.operands name t) w.world)
 stmt_same K p gs closed agree (Some c) x s w k e =
-    let arguments = values_of_in K p.program.globals (scope_of s.top) s.world.registers c.arguments w.world.registers (subst (OperandsIn K) (arguments_of_call x c e) k.operands) in
+    let operands : AddressesIn K c.arguments = subst (AddressesIn K) (arguments_of_call x c e) k.operands in
+    let arguments = values_of_in K p.program.globals (scope_of s.top) s.world.registers c.arguments w.world.registers (λ name t c. operands name t) in
     subst (λ r. Matches (Same K) (enter p.program.structs s (taking (scope_of s.top) c.to) (values_of p.program.globals (scope_of s.top) s.world.registers c.arguments) r) (call p c s))
     (sym (called_same K p.program.functions gs agree (scope_of s.top) s.world.registers c.callee w.world.registers (λ name n. k.calls c name e n)))
     (matches_itself K (call p c s) (enter_within K p.program.structs s _ _ _ w arguments
@@ -228,7 +233,7 @@ follows_same K p gs closed agree = record {
 begun_same : (K : List ℕ → Type 0) (p : Sealed) (gs : List Function) → Closed K p.program → Agree K p.program.functions gs → (input : List ℤ) (n : ℕ) (f : Function) (bs : List Block) → WithinBlocks K f.blocks → WithinBlocks K bs → runs_from (with_functions p gs) n (begun (with_functions p gs).program input f bs) ≡ runs_from p n (begun p.program input f bs)
 begun_same K p gs closed agree input n f [] fw bw = refl
 begun_same K p gs closed agree input n f (b ∷ bs) fw bw =
-    let globals = with_globals_in K p.program.structs p.program.globals 0 p.program.globals no_memory (All-nil _) closed.items in
+    let globals = with_globals_in K p.program.structs p.program.globals 0 p.program.globals no_memory (All-nil _) (λ name t e. closed.items name t) in
     runs_same (with_functions p gs) p (Same K) (simulates (with_functions p gs) p (Same K) (follows_same K p gs closed agree)) n _ _
     (within_itself K _ (record {
       top = record { rest = λ name c. bw name (MentionsInBlocks.body b bs c); end = λ name c. bw name (MentionsInBlocks.end b bs c); blocks = fw };

@@ -66,9 +66,9 @@ module _ (K : List ℕ → Type 0) where
   abbrev pub MemoryIn : Memory → Type 0
   MemoryIn m = All (λ (s : MemorySlot). ValueIn s.value) m.slots
 
-  -- the addresses among the operands are of the set
-  abbrev pub OperandsIn : List Operand → Type 0
-  OperandsIn xs = (name : List ℕ) → TakesAddress name xs → K name
+  -- the addresses among the operands that are function values are of the set
+  abbrev pub OperandsIn : List Global → Scope → List Operand → Type 0
+  OperandsIn globals scope xs = (name : List ℕ) → TakesAddress name xs → address_of globals scope name ≡ Code name → K name
 
   pub record WorldIn (d : World) : Type 0 where
     pub registers : All ValueIn d.registers
@@ -96,44 +96,44 @@ module _ (K : List ℕ → Type 0) where
   moved_in (At object offset) by h = tt
   moved_in (Code name) by h = h
 
-  global_in : (name : List ℕ) (o : Option ℕ) → K name → ValueIn (global_address name o)
-  global_in name None k = k
+  global_in : (name : List ℕ) (o : Option ℕ) → (global_address name o ≡ Code name → K name) → ValueIn (global_address name o)
+  global_in name None k = k refl
   global_in name (Some j) k = tt
 
-  local_in : (serial : ℕ) (o : Option ℕ) (v : Value) → ValueIn v → ValueIn (local_address serial o v)
-  local_in serial None v h = h
-  local_in serial (Some j) v h = tt
+  local_in : (name : List ℕ) (serial : ℕ) (o global : Option ℕ) → (local_address serial o (global_address name global) ≡ Code name → K name) → ValueIn (local_address serial o (global_address name global))
+  local_in name serial None global k = global_in name global k
+  local_in name serial (Some j) global k = tt
 
-  global_address_in : (globals : List Global) (name : List ℕ) → K name → ValueIn (address_of_global globals name)
+  global_address_in : (globals : List Global) (name : List ℕ) → (address_of_global globals name ≡ Code name → K name) → ValueIn (address_of_global globals name)
   unfolding address_of_global
   global_address_in globals name k = global_in name _ k
 
-  pub address_in : (globals : List Global) (scope : Scope) (name : List ℕ) → K name → ValueIn (address_of globals scope name)
-  unfolding address_of
-  address_in globals scope name k = local_in scope.serial _ _ (global_address_in globals name k)
+  address_in : (globals : List Global) (scope : Scope) (name : List ℕ) → (address_of globals scope name ≡ Code name → K name) → ValueIn (address_of globals scope name)
+  unfolding address_of address_of_global
+  address_in globals scope name k = local_in name scope.serial _ _ k
 
-  pub value_of_in : (globals : List Global) (scope : Scope) (vs : List Value) (x : Operand) → All ValueIn vs → ((name : List ℕ) (offset : ℤ) → x ≡ Address name offset → K name) → ValueIn (value_of globals scope vs x)
+  pub value_of_in : (globals : List Global) (scope : Scope) (vs : List Value) (x : Operand) → All ValueIn vs → ((name : List ℕ) (offset : ℤ) → x ≡ Address name offset → address_of globals scope name ≡ Code name → K name) → ValueIn (value_of globals scope vs x)
   unfolding value_in
   value_of_in globals scope vs (Reg name) h k = value_at_in vs _ h
   value_of_in globals scope vs (Number z) h k = tt
   value_of_in globals scope vs NullOperand h k = tt
   value_of_in globals scope vs (Address name offset) h k = moved_in (address_of globals scope name) (offset_in offset) (address_in globals scope name (k name offset refl))
 
-  pub first_in : (globals : List Global) (scope : Scope) (vs : List Value) (x : Operand) (xs : List Operand) → All ValueIn vs → OperandsIn (x ∷ xs) → ValueIn (value_of globals scope vs x)
+  pub first_in : (globals : List Global) (scope : Scope) (vs : List Value) (x : Operand) (xs : List Operand) → All ValueIn vs → OperandsIn globals scope (x ∷ xs) → ValueIn (value_of globals scope vs x)
   first_in globals scope vs x xs h k = value_of_in globals scope vs x h (λ name offset e. k name (first_address x xs name offset e))
 
-  pub values_of_in : (globals : List Global) (scope : Scope) (vs : List Value) (xs : List Operand) → All ValueIn vs → OperandsIn xs → All ValueIn (values_of globals scope vs xs)
+  pub values_of_in : (globals : List Global) (scope : Scope) (vs : List Value) (xs : List Operand) → All ValueIn vs → OperandsIn globals scope xs → All ValueIn (values_of globals scope vs xs)
   values_of_in globals scope vs [] h k = All-nil ValueIn
   values_of_in globals scope vs (x ∷ xs) h k =
       All-cons ValueIn _ _ (first_in globals scope vs x xs h k) (values_of_in globals scope vs xs h (λ name t. k name (later_address x xs name t)))
 
-  item_in : (globals : List Global) (x : Operand) → ((name : List ℕ) (offset : ℤ) → x ≡ Address name offset → K name) → ValueIn (item_value globals x)
+  item_in : (globals : List Global) (x : Operand) → ((name : List ℕ) (offset : ℤ) → x ≡ Address name offset → address_of_global globals name ≡ Code name → K name) → ValueIn (item_value globals x)
   item_in globals (Reg name) k = tt
   item_in globals (Number z) k = tt
   item_in globals NullOperand k = tt
   item_in globals (Address name offset) k = moved_in (address_of_global globals name) (offset_in offset) (global_address_in globals name (k name offset refl))
 
-  items_in : (globals : List Global) (xs : List Operand) → OperandsIn xs → All ValueIn (map (item_value globals) xs)
+  items_in : (globals : List Global) (xs : List Operand) → ((name : List ℕ) → TakesAddress name xs → address_of_global globals name ≡ Code name → K name) → All ValueIn (map (item_value globals) xs)
   items_in globals [] k = All-nil ValueIn
   items_in globals (x ∷ xs) k =
       All-cons ValueIn _ _ (item_in globals x (λ name offset e. k name (first_address x xs name offset e))) (items_in globals xs (λ name t. k name (later_address x xs name t)))
@@ -214,7 +214,7 @@ module _ (K : List ℕ → Type 0) where
       with_locals_in structs serial (k + 1) ds (with_object m (LocalObject serial k) (layout_of structs d) false [])
       (with_object_in m (LocalObject serial k) (layout_of structs d) false [] h (All-nil ValueIn))
 
-  pub with_globals_in : (structs : List StructDef) (all : List Global) (k : ℕ) (gs : List Global) (m : Memory) → MemoryIn m → ((name : List ℕ) → MentionsInItems name gs → K name) → MemoryIn (with_globals structs all k gs m)
+  pub with_globals_in : (structs : List StructDef) (all : List Global) (k : ℕ) (gs : List Global) (m : Memory) → MemoryIn m → ((name : List ℕ) → MentionsInItems name gs → address_of_global all name ≡ Code name → K name) → MemoryIn (with_globals structs all k gs m)
   unfolding with_globals
   with_globals_in structs all k [] m h items = h
   with_globals_in structs all k (g ∷ gs) m h items =
@@ -297,7 +297,7 @@ module _ (K : List ℕ → Type 0) where
   got_number_in scope d to (Some z) w = record { registers = put_at_in d.registers _ (Int z) tt w.registers; memory = w.memory }
 
   -- what a statement that is no call leaves
-  pub act_in : (e : Setting) (scope : Scope) (x : Stmt) (d : World) → OperandsIn (operands_of x) → WorldIn d → ActedIn (act e scope x d)
+  pub act_in : (e : Setting) (scope : Scope) (x : Stmt) (d : World) → OperandsIn e.globals scope (operands_of x) → WorldIn d → ActedIn (act e scope x d)
   unfolding act
   act_in e scope (Copy to from) d k w = assign_in scope d to _ w (first_in e.globals scope d.registers from [] w.registers k)
   act_in e scope (Arith to left op right) d k w = assign_result_in scope d to _ w (arith_in e.mode _ _ op _ (first_in e.globals scope d.registers left (right ∷ []) w.registers k))
