@@ -29,3 +29,4 @@ pub mod Blocks
 pub mod Callees
 pub mod KnownAddresses
 pub mod Addressed
+pub mod Shapes

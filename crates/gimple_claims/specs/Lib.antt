@@ -7,3 +7,4 @@ pub mod Laws
 pub mod Checks
 pub mod Typed
 pub mod Addressed
+pub mod Shapes

@@ -3,6 +3,7 @@
 
 ghost use Rattle.gimple_claims.specs.Checks.{FunctionsAreChecked, RunsBegin, NothingIsLost, AbortsOfAbort};
 ghost use Rattle.gimple_claims.specs.Laws.{SerialsGrow, EntriesAreNew, FramesAreLiveCalls, LivingAreOfFrames, DeadStayDead, GlobalsHold, RegistersAreDeclared, SettledRunsStay};
+ghost use Rattle.gimple_claims.specs.Shapes.{MemoryIsLaidOut};
 ghost use Rattle.gimple_claims.specs.Typed.{ValuesAreTyped};
 ghost use Rattle.gimple_claims.specs.Addressed.{FunctionValuesAreAddressed};
 
@@ -78,4 +79,10 @@ pub fn function_values_are_addressed()
 /// A run that has ended or trapped comes to the same with more transfers.
 pub fn settled_runs_stay()
     ensures { SettledRunsStay }
+{}
+
+/// The globals live, then the locals of the frames by their serials, and nothing else; the slots of memory are those of
+/// their layouts.
+pub fn memory_is_laid_out()
+    ensures { MemoryIsLaidOut }
 {}
