@@ -28,6 +28,7 @@ use Rattle.gimple_claims.proofs.Blocks.{label_has}
 use Rattle.gimple_claims.proofs.Callees.{called_own}
 use Rattle.gimple_claims.proofs.Comes.{Comes, InDid, holds}
 use Rattle.gimple_claims.proofs.KnownAddresses.{AddressesKnown, BlockKnown, blocks_known, address_function, item_names}
+use Rattle.gimple_claims.proofs.Lists.{all_found}
 use Rattle.gimple_claims.proofs.Steps.{Steps, acts, calls, jumps, leaves, stops, traps, step_is}
 
 -- ---- the addresses in a function of the program
@@ -70,18 +71,10 @@ typed_known : (p : Program) (fs : List Function) → FunctionsTyped p fs → All
 typed_known p [] h = tt
 typed_known p (f ∷ fs) h = (blocks_known (env_of p f) (functions_by_name p.functions) f.blocks h.2, typed_known p fs h.3)
 
-has_found : (P : Function → Type 0) (f g : Function) (o : Option Function) → P f → (o ≡ Some g → P g) → (b : Bool) → (if b then Some f else o) ≡ Some g → P g
-has_found P f g o h more true e = let same : f ≡ g = cc in subst P same h
-has_found P f g o h more false e = more e
-
-found_has_all : (P : Function → Type 0) (test : Function → Bool) (fs : List Function) (g : Function) → AllByRecursion P fs → find test fs ≡ Some g → P g
-found_has_all P test [] g h e = cc
-found_has_all P test (f ∷ fs) g h e = has_found P f g (find test fs) h.0 (found_has_all P test fs g h.1) (test f) e
-
 named_known : (p : Program) → first_fault p ≡ None → (name : List ℕ) (g : Function) → function_named name p.functions ≡ Some g → AllByRecursion (BlockKnown (env_of p g)) g.blocks
 unfolding function_named
 named_known p accepted name g e =
-    found_has_all (λ (f : Function). AllByRecursion (BlockKnown (env_of p f)) f.blocks) (λ f. bytes_eq f.name name) p.functions g (typed_known p p.functions (accepted_typed p accepted).1) e
+    all_found (λ (f : Function). AllByRecursion (BlockKnown (env_of p f)) f.blocks) (λ f. bytes_eq f.name name) p.functions g (typed_known p p.functions (accepted_typed p accepted).1) e
 
 -- ---- what holds in each state
 

@@ -1,6 +1,7 @@
 -- From an accepted program to the checks of each of its functions.
-use Rattle.std.proofs.Common.{◌≡◌, ℕ, ◌+◌, Bool, true, false, List, [], ◌∷◌, ◌++◌, map, length, subst, Option, Some, None, Ok, if◌then◌else◌}
-use Rattle.std.specs.List.{find}
+use Rattle.std.proofs.Common.{◌≡◌, ℕ, ◌+◌, true, List, [], ◌∷◌, ◌++◌, map, length, subst, None, Ok}
+use Rattle.std.specs.List.{AllByRecursion}
+use Rattle.std.specs.Str.{bytes_eq}
 use Rattle.gimple_ir.specs.declared.statement.Stmt.{Stmt}
 use Rattle.gimple_ir.specs.declared.block.Block.{Block}
 use Rattle.gimple_ir.specs.declared.program.Function.{Function}
@@ -13,8 +14,9 @@ use Rattle.gimple_core.specs.Declarations as d
 use Rattle.gimple_core.specs.Accepted.{checked, first_fault, known_env}
 use Rattle.gimple_core.proofs.ProgramTyped.{own_is, own_has_blocks, globals_are}
 use Rattle.gimple_core.proofs.Passed.{first_passed, at_passed, no_fault}
-use Rattle.gimple_core.proofs.Heads.{heads_are, Each}
+use Rattle.gimple_core.proofs.Heads.{heads_are}
 use Rattle.gimple_claims.specs.Checks.{StmtsPass, BlocksPass, IsChecked, FunctionsAreChecked}
+use Rattle.gimple_claims.proofs.Lists.{all_found}
 
 pub ok_same : {A E : Type 0} {a b : A} → pure {E = E} a ≡ Ok b → a ≡ b
 ok_same e = cc
@@ -56,14 +58,14 @@ module _ (p : Program) where
       let k = sees (known_env p.structs (targets_of p) (globals_by_name p.globals)) e.0 names f (at_passed _ (d.own (known_env p.structs (targets_of p) (globals_by_name p.globals)) names f) e.0 e.1) in
       record { some = k.some; blocks = subst (λ env. BlocksPass env names f.blocks) k.same (blocks_pass e.0 names number 1 f.blocks e.2) }
 
-  functions_checked : (number : ℕ) (fs : List Function) → d.functions (known_env p.structs (targets_of p) (globals_by_name p.globals)) names number fs ≡ Ok tt → Each (IsChecked p) fs
+  functions_checked : (number : ℕ) (fs : List Function) → d.functions (known_env p.structs (targets_of p) (globals_by_name p.globals)) names number fs ≡ Ok tt → AllByRecursion (IsChecked p) fs
   unfolding d.functions
   functions_checked number [] h = tt
   functions_checked number (f ∷ fs) h =
       let e = first_passed (d.one_function (known_env p.structs (targets_of p) (globals_by_name p.globals)) names number f) _ tt h in
       (function_checked number f e.1, functions_checked (number + 1) fs e.2)
 
-  all_checked : first_fault p ≡ None → Each (IsChecked p) p.functions
+  all_checked : first_fault p ≡ None → AllByRecursion (IsChecked p) p.functions
   unfolding first_fault checked
   all_checked h =
       let all = no_fault (checked p) h in
@@ -76,15 +78,6 @@ module _ (p : Program) where
       functions_checked 0 p.functions (subst (λ t. d.functions (known_env p.structs (targets_of p) (globals_by_name p.globals)) t 0 p.functions ≡ Ok tt) callees
       (subst (λ v. d.functions (known_env p.structs (targets_of p) v) c.0 0 p.functions ≡ Ok tt) variables m.2))
 
--- what holds of each function holds of one that is found
-found_in : (P : Function → Type 0) (g f : Function) (o : Option Function) (b : Bool) → P g → (o ≡ Some f → P f) → (if b then Some g else o) ≡ Some f → P f
-found_in P g f o true h more e = let same : g ≡ f = cc in subst P same h
-found_in P g f o false h more e = more e
-
-each_found : (P : Function → Type 0) (test : Function → Bool) (fs : List Function) (f : Function) → Each P fs → find test fs ≡ Some f → P f
-each_found P test [] f h e = cc
-each_found P test (g ∷ fs) f h e = found_in P g f (find test fs) (test g) h.0 (each_found P test fs f h.1) e
-
 pub functions_are_checked : FunctionsAreChecked
 unfolding function_named
-functions_are_checked p h name f e = each_found (IsChecked p) _ p.functions f (all_checked p h) e
+functions_are_checked p h name f e = all_found (IsChecked p) (λ g. bytes_eq g.name name) p.functions f (all_checked p h) e

@@ -30,3 +30,4 @@ pub mod Callees
 pub mod KnownAddresses
 pub mod Addressed
 pub mod Shapes
+pub mod Callings

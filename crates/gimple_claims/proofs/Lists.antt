@@ -1,6 +1,6 @@
 -- Lists that are filtered, changed in one place, or grown by one.
-use Rattle.std.proofs.Common.{◌≡◌, ℕ, zero, suc, slice_get, Bool, true, false, cond, ◌&&◌, List, [], ◌∷◌, ◌++◌, map, filter, refl, sym, ◌∙◌, ap, Option, Some, None, if◌then◌else◌}
-use Rattle.std.specs.List.{find, list_all}
+use Rattle.std.proofs.Common.{◌≡◌, ℕ, zero, suc, slice_get, Bool, true, false, cond, ◌&&◌, List, [], ◌∷◌, ◌++◌, filter, refl, sym, ◌∙◌, ap, subst, Option, Some, None, if◌then◌else◌}
+use Rattle.std.specs.List.{AllByRecursion, find, list_all}
 use Rattle.std.specs.Option.{option_or}
 use Rattle.std.proofs.lemmas.List.Folds.{find-append}
 use Rattle.gimple_core.specs.Names.{update_first}
@@ -26,16 +26,6 @@ module _ {X : Type 0} where
       by : (b : Bool) → p x ≡ b → (p x ≡ true → (test x ≡ false) × (test (g x) ≡ false)) → filter test (update_first p g xs) ≡ filter test xs → filter test (if b then g x ∷ xs else x ∷ update_first p g xs) ≡ filter test (x ∷ xs)
       by true e more k = let f = more e in rw (f.0, f.1) refl
       by false e more k = ap (λ ys. cond (test x) (x ∷ ys) ys) k
-
-  -- a change that a view does not see
-  pub map_updated : {Y : Type 0} (view : X → Y) (p : X → Bool) (g : X → X) → ((x : X) → view (g x) ≡ view x) → (xs : List X) → map view (update_first p g xs) ≡ map view xs
-  unfolding update_first
-  map_updated view p g h [] = refl
-  map_updated view p g h (x ∷ xs) = by (p x) (map_updated view p g h xs)
-    where
-      by : (b : Bool) → map view (update_first p g xs) ≡ map view xs → map view (if b then g x ∷ xs else x ∷ update_first p g xs) ≡ view x ∷ map view xs
-      by true k = ap (λ y. y ∷ map view xs) (h x)
-      by false k = ap (λ ys. view x ∷ ys) k
 
   or_none : (o : Option X) → option_or o None ≡ o
   or_none None = refl
@@ -72,6 +62,15 @@ module _ {X : Type 0} where
       by : (b : Bool) → test x ≡ b → (if b then Some x else find test xs) ≡ Some y → (find test xs ≡ Some y → test y ≡ true) → test y ≡ true
       by true t f more = let same : x ≡ y = cc in ap test (sym same) ∙ t
       by false t f more = more f
+
+  all_of : (P : X → Type 0) (x y : X) (o : Option X) → P x → (o ≡ Some y → P y) → (b : Bool) → (if b then Some x else o) ≡ Some y → P y
+  all_of P x y o h more true e = let same : x ≡ y = cc in subst P same h
+  all_of P x y o h more false e = more e
+
+  -- what holds of each item holds of one that is found
+  pub all_found : (P : X → Type 0) (test : X → Bool) (xs : List X) (y : X) → AllByRecursion P xs → find test xs ≡ Some y → P y
+  all_found P test [] y h e = cc
+  all_found P test (x ∷ xs) y h e = all_of P x y (find test xs) h.0 (all_found P test xs y h.1) (test x) e
 
   -- what all items have, a found one has
   pub found_has : (p test : X → Bool) (xs : List X) (y : X) → list_all p xs ≡ true → find test xs ≡ Some y → p y ≡ true
