@@ -1,5 +1,5 @@
 -- Lists that are filtered, changed in one place, or grown by one.
-use Rattle.std.proofs.Common.{◌≡◌, ℕ, zero, suc, slice_get, Bool, true, false, cond, ◌&&◌, List, [], ◌∷◌, ◌++◌, filter, refl, sym, ◌∙◌, ap, subst, Option, Some, None, if◌then◌else◌}
+use Rattle.std.proofs.Common.{◌≡◌, ℕ, zero, suc, slice_get, Bool, true, false, cond, ◌&&◌, List, [], ◌∷◌, ◌++◌, map, filter, refl, sym, ◌∙◌, ap, subst, Option, Some, None, if◌then◌else◌}
 use Rattle.std.specs.List.{AllByRecursion, find, list_all}
 use Rattle.std.specs.Option.{option_or}
 use Rattle.std.proofs.lemmas.List.Folds.{find-append}
@@ -26,6 +26,16 @@ module _ {X : Type 0} where
       by : (b : Bool) → p x ≡ b → (p x ≡ true → (test x ≡ false) × (test (g x) ≡ false)) → filter test (update_first p g xs) ≡ filter test xs → filter test (if b then g x ∷ xs else x ∷ update_first p g xs) ≡ filter test (x ∷ xs)
       by true e more k = let f = more e in rw (f.0, f.1) refl
       by false e more k = ap (λ ys. cond (test x) (x ∷ ys) ys) k
+
+  -- a change that a view does not see
+  pub map_updated : {Y : Type 0} (view : X → Y) (p : X → Bool) (g : X → X) → ((x : X) → view (g x) ≡ view x) → (xs : List X) → map view (update_first p g xs) ≡ map view xs
+  unfolding update_first
+  map_updated view p g h [] = refl
+  map_updated view p g h (x ∷ xs) = by (p x) (map_updated view p g h xs)
+    where
+      by : (b : Bool) → map view (update_first p g xs) ≡ map view xs → map view (if b then g x ∷ xs else x ∷ update_first p g xs) ≡ view x ∷ map view xs
+      by true k = ap (λ y. y ∷ map view xs) (h x)
+      by false k = ap (λ ys. view x ∷ ys) k
 
   or_none : (o : Option X) → option_or o None ≡ o
   or_none None = refl
