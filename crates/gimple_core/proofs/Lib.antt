@@ -5,6 +5,7 @@ pub mod ScalarLemmas
 pub mod LayoutLemmas
 pub mod Simulation
 pub mod StepLemmas
+pub mod ValuesIn
 pub mod FunctionValues
 pub mod Dropping
 pub mod Rows
