@@ -1,5 +1,5 @@
 -- What a call enters: a function of the program, whose formals and result its checks fit.
-use Rattle.std.proofs.Common.{◌≡◌, ℕ, ◌==◌, Bool, true, false, ◌&&◌, List, [], ◌∷◌, length, refl, sym, ◌∙◌, ap, subst, Option, Some, None, Result, Ok, Err, if◌then◌else◌}
+use Rattle.std.proofs.Common.{◌≡◌, ℕ, ◌==◌, Bool, true, false, List, [], ◌∷◌, length, refl, sym, ◌∙◌, ap, subst, Option, Some, None, Result, Ok, Err, if◌then◌else◌}
 use Rattle.std.specs.List.{find}
 use Rattle.std.proofs.lemmas.Bool.{eqb-true}
 use Rattle.std.proofs.lemmas.List.{length-map}
@@ -25,7 +25,7 @@ use Rattle.gimple_core.proofs.NameLemmas.{same_name_true}
 use Rattle.gimple_core.proofs.Passed.{first_passed, demanded, found_so}
 use Rattle.gimple_core.proofs.EnvLemmas.{named_find}
 use Rattle.gimple_core.proofs.ScalarLemmas.{same_scalar_true}
-use Rattle.gimple_claims.proofs.Lists.{found_test}
+use Rattle.gimple_claims.proofs.Lists.{both_true, found_test}
 
 -- ---- the function
 
@@ -72,10 +72,6 @@ called_own fs scope registers (Through name signature) g e =
     own_name h.name fs g h.found
 
 -- ---- its signature
-
-both_true : (a b : Bool) → a && b ≡ true → (a ≡ true) × (b ≡ true)
-both_true true b e = (refl, e)
-both_true false b e = cc
 
 same_scalars_true : (xs ys : List Scalar) → same_scalars xs ys ≡ true → xs ≡ ys
 same_scalars_true [] [] e = refl

@@ -27,12 +27,8 @@ use Rattle.gimple_claims.specs.Laws.{slots_of, HoldsGlobal, GlobalsHold}
 use Rattle.gimple_claims.proofs.Comes.{InDid, holds}
 use Rattle.gimple_claims.proofs.Steps.{Steps, acts, calls, jumps, leaves, stops, traps, step_is}
 use Rattle.gimple_claims.proofs.Acts.{Acts, assigns, takes, prints, stores, acts_is, FoundOf, found_lives}
-use Rattle.gimple_claims.proofs.Lists.{filter_kept, filter_updated, find_more}
+use Rattle.gimple_claims.proofs.Lists.{both_true, filter_kept, filter_updated, find_more}
 use Rattle.gimple_claims.proofs.Locals.{locals_find, locals_slots, object_slots}
-
-both_true : (a b : Bool) → a && b ≡ true → (a ≡ true) × (b ≡ true)
-both_true true b e = (refl, e)
-both_true false b e = cc
 
 first_true : (a b c : Bool) → a && b && c ≡ true → a ≡ true
 first_true true b c e = refl

@@ -1,9 +1,14 @@
--- Lists that are filtered, changed in one place, or grown by one.
+-- Lists that are filtered, changed in one place, or grown by one, and tests of them.
 use Rattle.std.proofs.Common.{◌≡◌, ℕ, zero, suc, slice_get, Bool, true, false, cond, ◌&&◌, List, [], ◌∷◌, ◌++◌, map, filter, refl, sym, ◌∙◌, ap, subst, Option, Some, None, if◌then◌else◌}
 use Rattle.std.specs.List.{AllByRecursion, find, list_all}
 use Rattle.std.specs.Option.{option_or}
 use Rattle.std.proofs.lemmas.List.Folds.{find-append}
 use Rattle.gimple_core.specs.Names.{update_first}
+
+-- two tests that both pass
+pub both_true : (a b : Bool) → a && b ≡ true → (a ≡ true) × (b ≡ true)
+both_true true b e = (refl, e)
+both_true false b e = cc
 
 module _ {X : Type 0} where
   -- what the second filter drops, the first one drops too

@@ -1,5 +1,5 @@
 -- Values of operands and of operators, of their scalars.
-use Rattle.std.proofs.Common.{◌≡◌, ℕ, zero, suc, ◌<◌, ℤ, pos, Bool, true, false, not, ◌&&◌, List, [], ◌∷◌, ◌++◌, length, refl, sym, ◌∙◌, ap, subst, rules, Option, Some, None, Result, Ok, Err, if◌then◌else◌, slice_get}
+use Rattle.std.proofs.Common.{◌≡◌, ℕ, zero, suc, ◌<◌, ℤ, pos, Bool, true, false, not, List, [], ◌∷◌, ◌++◌, length, refl, sym, ◌∙◌, ap, subst, rules, Option, Some, None, Result, Ok, Err, if◌then◌else◌, slice_get}
 use Rattle.std.specs.Prelude.{slice_set, unwrap_or}
 use Rattle.std.specs.List.{find, position, position_or_len}
 use Rattle.std.proofs.lemmas.List.{map-append}
@@ -33,6 +33,7 @@ use Rattle.gimple_core.proofs.ScalarLemmas.{same_scalar_true, pointer_is}
 use Rattle.gimple_claims.specs.Checks.{env_of}
 use Rattle.gimple_claims.specs.Typed.{registers_typed}
 use Rattle.gimple_claims.proofs.Checked.{ok_same}
+use Rattle.gimple_claims.proofs.Lists.{both_true}
 
 -- ---- numbers and pointers
 
@@ -136,20 +137,12 @@ scalar_there p f scope name scalar d h =
     let r = register_named p f name scalar h in
     ap scalar_or_pointer (ap (find (λ (x : Register). bytes_eq x.name name)) d ∙ r.1) ∙ r.2
 
-head_typed : (a b : Bool) → a && b ≡ true → a ≡ true
-head_typed true b e = refl
-head_typed false b e = cc
-
-tail_typed : (a b : Bool) → a && b ≡ true → b ≡ true
-tail_typed true b e = e
-tail_typed false b e = cc
-
 -- the value at a place has the scalar of the register there
 pub typed_at : (rs : List Register) (vs : List Value) (k : ℕ) (r : Register) → registers_typed rs vs ≡ true → slice_get rs k ≡ Some r → is_of r.scalar (unwrap_or (slice_get vs k) Null) ≡ true
 typed_at [] vs k r t e = cc
 typed_at (x ∷ rs) [] k r t e = cc
-typed_at (x ∷ rs) (v ∷ vs) zero r t e = let same : x ≡ r = cc in ap (λ (y : Register). is_of y.scalar v) (sym same) ∙ head_typed (is_of x.scalar v) (registers_typed rs vs) t
-typed_at (x ∷ rs) (v ∷ vs) (suc k) r t e = typed_at rs vs k r (tail_typed (is_of x.scalar v) (registers_typed rs vs) t) e
+typed_at (x ∷ rs) (v ∷ vs) zero r t e = let same : x ≡ r = cc in ap (λ (y : Register). is_of y.scalar v) (sym same) ∙ (both_true (is_of x.scalar v) (registers_typed rs vs) t).0
+typed_at (x ∷ rs) (v ∷ vs) (suc k) r t e = typed_at rs vs k r ((both_true (is_of x.scalar v) (registers_typed rs vs) t).1) e
 
 -- a value of the register's scalar put at its place
 pub typed_put : (rs : List Register) (vs : List Value) (k : ℕ) (r : Register) (v : Value) → registers_typed rs vs ≡ true → slice_get rs k ≡ Some r → is_of r.scalar v ≡ true → registers_typed rs (slice_set vs k v) ≡ true
@@ -158,16 +151,16 @@ typed_put (x ∷ rs) [] k r v t e h = cc
 typed_put (x ∷ rs) (w ∷ vs) zero r v t e h =
     let same : x ≡ r = cc in
     let here : is_of x.scalar v ≡ true = ap (λ (y : Register). is_of y.scalar v) same ∙ h in
-    rw here (tail_typed (is_of x.scalar w) (registers_typed rs vs) t)
+    rw here ((both_true (is_of x.scalar w) (registers_typed rs vs) t).1)
 typed_put (x ∷ rs) (w ∷ vs) (suc k) r v t e h =
-    rw (head_typed (is_of x.scalar w) (registers_typed rs vs) t) (typed_put rs vs k r v (tail_typed (is_of x.scalar w) (registers_typed rs vs) t) e h)
+    rw ((both_true (is_of x.scalar w) (registers_typed rs vs) t).0) (typed_put rs vs k r v ((both_true (is_of x.scalar w) (registers_typed rs vs) t).1) e h)
 
 pub typed_append : (rs ss : List Register) (vs ws : List Value) → registers_typed rs vs ≡ true → registers_typed ss ws ≡ true → registers_typed (rs ++ ss) (vs ++ ws) ≡ true
 typed_append [] ss [] ws t u = u
 typed_append [] ss (v ∷ vs) ws t u = cc
 typed_append (r ∷ rs) ss [] ws t u = cc
 typed_append (r ∷ rs) ss (v ∷ vs) ws t u =
-    rw (head_typed (is_of r.scalar v) (registers_typed rs vs) t) (typed_append rs ss vs ws (tail_typed (is_of r.scalar v) (registers_typed rs vs) t) u)
+    rw ((both_true (is_of r.scalar v) (registers_typed rs vs) t).0) (typed_append rs ss vs ws ((both_true (is_of r.scalar v) (registers_typed rs vs) t).1) u)
 
 pub value_there : (scope : Scope) (values : List Value) (name : List ℕ) (scalar : Scalar) → registers_typed scope.declared values ≡ true → HasRegister scope.declared name scalar → is_of scalar (value_in scope values name) ≡ true
 unfolding value_in
