@@ -4,7 +4,7 @@
 ghost use Rattle.gimple_ir.specs.declared.scalar.Scalar.TheVariants.{I32};
 ghost use Rattle.value_rows.specs.Kept.{IsKept};
 
-use gimple_core::{Op, OutOfMemory, Scalar, low};
+use gimple_core::{Mode, Op, OutOfMemory, Scalar, low};
 use std::alloc::Global;
 use std::env;
 use std::process::ExitCode;
@@ -59,7 +59,15 @@ fn repeated(
 {
     let mut sum = 0u64;
     for round in 0..rounds {
-        let result = made(alloc, turns.of(round), Scalar::I32, first, second, limits)?;
+        let result = made(
+            alloc,
+            Mode::Trap,
+            turns.of(round),
+            Scalar::I32,
+            first,
+            second,
+            limits,
+        )?;
         sum = sum.wrapping_add(mark(&result));
     }
     Ok(sum)

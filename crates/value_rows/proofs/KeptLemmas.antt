@@ -1,15 +1,16 @@
 -- What the calls need and give, from the laws of the operators.
 use Rattle.std.proofs.Common.{◌≡◌, ◌∙◌, ℤ, ap, refl, subst, sym, false, inl, inr, Result, Ok, Err, IfOk}
 use Rattle.gimple_ir.specs.declared.scalar.Scalar.{Scalar}
+use Rattle.gimple_ir.specs.declared.scalar.Mode.{Mode}
 use Rattle.gimple_ir.specs.declared.scalar.Op.{Op}
 use Rattle.gimple_ir.specs.declared.scalar.Op.TheVariants.{Add, Sub, Mul, Div, Rem, And, Or, Xor, Shl, Shr}
 use Rattle.gimple_ir.specs.declared.scalar.Cmp.{Cmp}
 use Rattle.gimple_ir.specs.declared.scalar.Cmp.TheVariants.{Ge, Le}
 use Rattle.gimple_ir.specs.declared.value.Constant.{Constant}
 use Rattle.gimple_ir.specs.declared.value.Constant.TheVariants.{Int}
+use Rattle.gimple_core.specs.Statements.{is_pointer}
 use Rattle.fix_engine.specs.Lattice.{AreAlike}
 use Rattle.value_domain.specs.declared.abs_val.AbsVal.{AbsVal}
-use Rattle.value_domain.specs.ConstantOperators.{is_pointer}
 use Rattle.value_domain.specs.AbsOperators.{exactly_of, top_of, refined_of, abs_op_of, abs_cmp_of, abs_convert_of}
 use Rattle.value_domain.specs.Thresholds.{Limits, IsLawful}
 use Rattle.value_domain.specs.Values.{FitsWith, FitsAbsVal, kind_of}
@@ -62,9 +63,9 @@ is_right Shr scalar p = p
 pub allowed_alike : (op : Op) (scalar : Scalar) → is_pointer scalar ≡ false → IsAllowed op scalar scalar
 allowed_alike op scalar p = inr (p, is_right op scalar p)
 
-pub made_kept : (l : Limits) → IsLawful l.ends → (op : Op) (scalar : Scalar) (a b : AbsVal) → is_pointer scalar ≡ false → IsKept scalar l a → IsKept scalar l b → IsKept scalar l (abs_op_of op scalar scalar l.size l.ends a b)
-made_kept l law op scalar a b p k m =
-    let both = op_fits l.size l.ends law op scalar scalar (allowed_alike op scalar p) a b k.fits k.of m.fits m.of in
+pub made_kept : (l : Limits) → IsLawful l.ends → (mode : Mode) (op : Op) (scalar : Scalar) (a b : AbsVal) → is_pointer scalar ≡ false → IsKept scalar l a → IsKept scalar l b → IsKept scalar l (abs_op_of mode op scalar scalar l.size l.ends a b)
+made_kept l law mode op scalar a b p k m =
+    let both = op_fits l.size l.ends law mode op scalar scalar (allowed_alike op scalar p) a b k.fits k.of m.fits m.of in
     record { fits = both.0; of = both.1 }
 
 kept_fits : (scalar : Scalar) (l : Limits) → IsLawful l.ends → (a : AbsVal) → IsKept scalar l a → FitsAbsVal (kind_of l.size l.ends) a

@@ -8,6 +8,7 @@ use Rattle.gimple_core.specs.Run.{main_name}
 
 abbrev pub sample : Program
 sample = record {
+  profile = 1;
   structs = [];
   globals = [];
   functions = record {

@@ -31,6 +31,7 @@ fn program(alloc: Global) -> Result<Checked, OutOfMemory>
         blocks,
     })?;
     Ok(Checked::seal(Program {
+        profile: 1,
         structs: Listed::new(alloc),
         globals: Listed::new(alloc),
         functions,

@@ -5,7 +5,7 @@ use crate::sample::limits;
 use crate::values::{
     alone, both, compared, converted, is_below, joined, known_number, left, made, whole,
 };
-use gimple_core::{Cmp, Op, OutOfMemory, Scalar};
+use gimple_core::{Cmp, Mode, Op, OutOfMemory, Scalar};
 use std::alloc::Global;
 use std::test::Fail;
 use value_domain::{Bits, Range, into_scalar};
@@ -47,7 +47,15 @@ fn masked_number(rt: HostRuntime) -> Result<(), Fail> {
     let limits = limits(alloc)?;
     let all = whole(Scalar::I32, &limits);
     let three = alone(alloc, Scalar::I32, 3, &limits)?;
-    let masked = made(alloc, Op::And, Scalar::I32, &all, &three, &limits)?;
+    let masked = made(
+        alloc,
+        Mode::Trap,
+        Op::And,
+        Scalar::I32,
+        &all,
+        &three,
+        &limits,
+    )?;
     let bits = Bits {
         mask: 0xffff_fffc,
         value: 0,

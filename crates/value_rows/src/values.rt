@@ -2,13 +2,13 @@
 
 ghost use Rattle.std.specs.Prelude.{◌≡◌, false, IfOk};
 ghost use Rattle.value_domain.specs.AbsOperators.{abs_cmp_of, abs_convert_of, abs_met, abs_op_of, exactly_of, known_of, may_trap_of, refined_of, top_of};
-ghost use Rattle.value_domain.specs.ConstantOperators.{is_pointer};
+ghost use Rattle.gimple_core.specs.Statements.{is_pointer};
 ghost use Rattle.value_domain.specs.Values.{abs_val_below, abs_val_joined};
 ghost use Rattle.value_rows.specs.Expected.{between_of};
 ghost use Rattle.value_rows.specs.Kept.{IsKept};
 ghost use Rattle.value_rows.specs.Numbers.{number_in};
 
-use gimple_core::{Cmp, Constant, Op, OutOfMemory, Scalar};
+use gimple_core::{Cmp, Constant, Mode, Op, OutOfMemory, Scalar};
 use std::alloc::Global;
 use value_domain::{
     AbsVal, Range, Thresholds, abs_cmp, abs_convert, abs_op, exactly, join, known, leq, may_trap,
@@ -77,6 +77,7 @@ pub fn between(
 /// The result of an operator on two values of a scalar.
 pub fn made(
     alloc: Global,
+    mode: Mode,
     op: Op,
     scalar: Scalar,
     first: &AbsVal,
@@ -87,21 +88,28 @@ pub fn made(
     requires first { IsKept scalar limits.now first.now }
     requires second { IsKept scalar limits.now second.now }
     ensures kept { IfOk result (IsKept scalar limits.now) }
-    ensures value { IfOk result (λ v. v ≡ abs_op_of op scalar scalar limits.now.size limits.now.ends first.now second.now) }
+    ensures value { IfOk result (λ v. v ≡ abs_op_of mode op scalar scalar limits.now.size limits.now.ends first.now second.now) }
 {
     limits.known();
-    abs_op(alloc, op, scalar, scalar, first, second, limits)
+    abs_op(alloc, mode, op, scalar, scalar, first, second, limits)
 }
 
 /// Whether an operator may trap on two values of a scalar.
-pub fn traps(op: Op, scalar: Scalar, first: &AbsVal, second: &AbsVal, limits: &Thresholds) -> bool
+pub fn traps(
+    mode: Mode,
+    op: Op,
+    scalar: Scalar,
+    first: &AbsVal,
+    second: &AbsVal,
+    limits: &Thresholds,
+) -> bool
     requires number { is_pointer scalar ≡ false }
     requires first { IsKept scalar limits.now first.now }
     requires second { IsKept scalar limits.now second.now }
-    ensures { result ≡ may_trap_of op scalar first.now second.now }
+    ensures { result ≡ may_trap_of mode op scalar first.now second.now }
 {
     limits.known();
-    may_trap(op, scalar, first, second)
+    may_trap(mode, op, scalar, first, second)
 }
 
 /// What a comparison of two values makes of them, as a value of `target`.

@@ -13,5 +13,5 @@ abs_op-requires c = record {
 pub returns-clause-kept : goal.returns-clause-kept
 returns-clause-kept c =
     kept_ok c.args.scalar c.args.limits.now c.abs_op.result _
-    (made_kept c.args.limits.now c.known.ensures c.args.op c.args.scalar c.args.first.now c.args.second.now c.requires.number c.requires.first c.requires.second)
+    (made_kept c.args.limits.now c.known.ensures c.args.mode c.args.op c.args.scalar c.args.first.now c.args.second.now c.requires.number c.requires.first c.requires.second)
     c.abs_op.ensures
