@@ -30,4 +30,5 @@ pub mod Callees
 pub mod KnownAddresses
 pub mod Addressed
 pub mod Shapes
+pub mod Pointers
 pub mod Callings

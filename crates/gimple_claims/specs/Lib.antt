@@ -8,3 +8,4 @@ pub mod Checks
 pub mod Typed
 pub mod Addressed
 pub mod Shapes
+pub mod Pointers

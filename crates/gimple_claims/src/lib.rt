@@ -3,6 +3,7 @@
 
 ghost use Rattle.gimple_claims.specs.Checks.{FunctionsAreChecked, RunsBegin, NothingIsLost, AbortsOfAbort};
 ghost use Rattle.gimple_claims.specs.Laws.{SerialsGrow, EntriesAreNew, FramesAreLiveCalls, LivingAreOfFrames, DeadStayDead, GlobalsHold, RegistersAreDeclared, SettledRunsStay};
+ghost use Rattle.gimple_claims.specs.Pointers.{PointersAreOld, EntriesGetOldPointers};
 ghost use Rattle.gimple_claims.specs.Shapes.{MemoryIsLaidOut};
 ghost use Rattle.gimple_claims.specs.Typed.{ValuesAreTyped};
 ghost use Rattle.gimple_claims.specs.Addressed.{FunctionValuesAreAddressed};
@@ -85,4 +86,11 @@ pub fn settled_runs_stay()
 /// their layouts.
 pub fn memory_is_laid_out()
     ensures { MemoryIsLaidOut }
+{}
+
+/// Each pointer to a local, in a register or a slot, is of a frame with a serial below the next one; so a call that begins
+/// gets no pointer to its own locals, in an argument or in memory.
+pub fn pointers_are_old()
+    ensures states { PointersAreOld }
+    ensures entries { EntriesGetOldPointers }
 {}
