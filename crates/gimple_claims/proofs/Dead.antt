@@ -22,14 +22,14 @@ use Rattle.gimple_claims.proofs.Globals.{same_object_true}
 use Rattle.gimple_claims.proofs.Living.{living_are_of_frames}
 
 -- what each step keeps holds in all states that come later
-leads_to : (p : Sealed) (I : State → Type 0) → ((s : State) → I s → InDid I (step p s)) → (s t : State) → Leads p s t → I s → I t
+pub leads_to : (p : Sealed) (I : State → Type 0) → ((s : State) → I s → InDid I (step p s)) → (s t : State) → Leads p s t → I s → I t
 leads_to p I keep s _ none h = h
 leads_to p I keep s _ (goes_on t u l e) h = subst (InDid I) e (keep t (leads_to p I keep s t l h))
 leads_to p I keep s _ (moves_on k t u l e) h = subst (InDid I) e (keep t (leads_to p I keep s t l h))
 
 -- ---- an object of a frame that has begun
 
-abbrev Begun : ℕ → Object → Type 0
+abbrev pub Begun : ℕ → Object → Type 0
 Begun n (Global k) = Unit {0}
 Begun n (Local serial k) = serial < n
 
@@ -38,7 +38,7 @@ begun_more n m (Global k) l h = tt
 begun_more n m (Local serial k) l h = let b : serial < n = h in omega (arith, b, l)
 
 -- is none of the frame that begins next
-not_new : (n : ℕ) (o : Object) (k : ℕ) → Begun n o → same_object (Local n k) o ≡ false
+pub not_new : (n : ℕ) (o : Object) (k : ℕ) → Begun n o → same_object (Local n k) o ≡ false
 not_new n (Global j) k h = refl
 not_new n (Local serial j) k h = by (n == serial) refl h
   where
@@ -61,7 +61,7 @@ begun_by : (past : List Event) (s : State) (o : Object) → Older past s → liv
 begun_by past s (Global k) h e = tt
 begun_by past s (Local serial k) h e = older_below s.next serial (record { control = s.top; registers = s.world.registers } ∷ s.below) (h.top, h.below) e
 
-begun : (p : Sealed) (input : List ℤ) (past : List Event) (s : State) (o : Object) (x : Extent) → Comes p input past s → living_object o s.world.memory ≡ Some x → Begun s.next o
+pub begun : (p : Sealed) (input : List ℤ) (past : List Event) (s : State) (o : Object) (x : Extent) → Comes p input past s → living_object o s.world.memory ≡ Some x → Begun s.next o
 begun p input past s o x c e =
     let own : x.object ≡ o = same_object_true x.object o (found_test (λ (y : Extent). same_object y.object o) s.world.memory.living x e) in
     let there : lives_in (serials s) x.object ≡ true = found_has (λ (y : Extent). lives_in (serials s) y.object) (λ (y : Extent). same_object y.object o) s.world.memory.living x (living_are_of_frames p input past s c) e in
@@ -107,7 +107,7 @@ module _ (object : Object) where
   dead_did p s h _ (stops o z) = tt
   dead_did p s h _ (traps o k) = tt
 
-  from_did : (p : Sealed) (s : State) → Begun s.next object → (d : Did) → Steps p s d → InDid (λ t. Begun t.next object) d
+  pub from_did : (p : Sealed) (s : State) → Begun s.next object → (d : Did) → Steps p s d → InDid (λ t. Begun t.next object) d
   from_did p s h _ (acts x xs w e n r) = h
   from_did p s h _ (calls x xs c g b bs e n f y) = begun_more s.next (s.next + 1) object (omega arith) h
   from_did p s h _ (jumps label k b e x f) = h

@@ -31,4 +31,5 @@ pub mod KnownAddresses
 pub mod Addressed
 pub mod Shapes
 pub mod Pointers
+pub mod Slots
 pub mod Callings

@@ -9,3 +9,4 @@ pub mod Typed
 pub mod Addressed
 pub mod Shapes
 pub mod Pointers
+pub mod Slots

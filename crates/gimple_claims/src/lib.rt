@@ -5,6 +5,7 @@ ghost use Rattle.gimple_claims.specs.Checks.{FunctionsAreChecked, RunsBegin, Not
 ghost use Rattle.gimple_claims.specs.Laws.{SerialsGrow, EntriesAreNew, FramesAreLiveCalls, LivingAreOfFrames, DeadStayDead, GlobalsHold, RegistersAreDeclared, SettledRunsStay};
 ghost use Rattle.gimple_claims.specs.Pointers.{PointersAreOld, EntriesGetOldPointers};
 ghost use Rattle.gimple_claims.specs.Shapes.{MemoryIsLaidOut};
+ghost use Rattle.gimple_claims.specs.Slots.{SlotsKeepValues};
 ghost use Rattle.gimple_claims.specs.Typed.{ValuesAreTyped};
 ghost use Rattle.gimple_claims.specs.Addressed.{FunctionValuesAreAddressed};
 
@@ -93,4 +94,9 @@ pub fn memory_is_laid_out()
 pub fn pointers_are_old()
     ensures states { PointersAreOld }
     ensures entries { EntriesGetOldPointers }
+{}
+
+/// Between two states of a run in which an object lives, each of its slots to which nothing is stored keeps its value.
+pub fn slots_keep_values()
+    ensures { SlotsKeepValues }
 {}
