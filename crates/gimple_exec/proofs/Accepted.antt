@@ -4,7 +4,7 @@ use Rattle.std.specs.List.{All}
 use Rattle.std.proofs.lemmas.List.Elements.{All-nil, All-head, All-tail, All-weaker}
 use Rattle.gimple_ir.specs.declared.declarations.Decl.{Decl}
 use Rattle.gimple_ir.specs.declared.declarations.StructDef.{StructDef}
-use Rattle.gimple_ir.specs.declared.program.Program.{Program}
+use Rattle.gimple_core.specs.Sealed.{Sealed}
 use Rattle.gimple_core.specs.Layout.{layout_of, HasLayout}
 use Rattle.gimple_core.specs.Accepted.{IsAccepted}
 use Rattle.gimple_core.proofs.AcceptedLayouts as layouts
@@ -20,13 +20,13 @@ at_any P (x ∷ xs) (suc k) none h e = at_any P xs k none (All-tail P x xs h) e
 abbrev IsSmall : List StructDef → Decl → Type 0
 IsSmall structs d = (layout_of structs d).size ≤ 2 ^ 24
 
-pub limited : (p : Program) → IsAccepted p → length p.globals < 2 ^ 32 → All (λ f. length f.locals < 2 ^ 32) p.functions → IsLimited p
+pub limited : (p : Sealed) → IsAccepted p.program → length p.program.globals < 2 ^ 32 → All (λ f. length f.locals < 2 ^ 32) p.program.functions → IsLimited p
 limited p accepted globals locals = record {
   globals = globals;
-  locals = λ k. at_any (λ f. length f.locals < 2 ^ 32) p.functions k no_function locals (omega arith);
-  structs = accepted_structs p accepted;
-  global_sizes = All-weaker (λ g. HasLayout p.structs g.decl) (λ g. IsSmall p.structs g.decl) (λ g h. h.size) p.globals (layouts.global_layouts p accepted);
-  local_sizes = λ k. at_any (λ f. All (IsSmall p.structs) f.locals) p.functions k no_function
-      (All-weaker (λ f. All (HasLayout p.structs) f.locals) (λ f. All (IsSmall p.structs) f.locals) (λ f h. All-weaker (HasLayout p.structs) (IsSmall p.structs) (λ d l. l.size) f.locals h) p.functions (layouts.local_layouts p accepted))
-      (All-nil (IsSmall p.structs));
+  locals = λ k. at_any (λ f. length f.locals < 2 ^ 32) p.program.functions k no_function locals (omega arith);
+  structs = accepted_structs p.program accepted;
+  global_sizes = All-weaker (λ g. HasLayout p.program.structs g.decl) (λ g. IsSmall p.program.structs g.decl) (λ g h. h.size) p.program.globals (layouts.global_layouts p.program accepted);
+  local_sizes = λ k. at_any (λ f. All (IsSmall p.program.structs) f.locals) p.program.functions k no_function
+      (All-weaker (λ f. All (HasLayout p.program.structs) f.locals) (λ f. All (IsSmall p.program.structs) f.locals) (λ f h. All-weaker (HasLayout p.program.structs) (IsSmall p.program.structs) (λ d l. l.size) f.locals h) p.program.functions (layouts.local_layouts p.program accepted))
+      (All-nil (IsSmall p.program.structs));
 }

@@ -5,7 +5,8 @@ pub mod Naming
 pub mod TableLemmas
 pub mod MadeLemmas
 pub mod PlaceLemmas
-pub mod CellLemmas
+pub mod BlockLemmas
+pub mod SignatureLemmas
 pub mod StepLemmas
 pub mod MachineLemmas
 pub mod RunLemmas

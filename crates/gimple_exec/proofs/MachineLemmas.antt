@@ -1,95 +1,101 @@
 -- What the machine's calls leave, as steps of the definition.
-use Rattle.std.proofs.Common.{◌≡◌, ◌∙◌, ap, sym, refl, subst, List, [], ◌∷◌, ◌++◌, reverse, map, Option, None, ℕ, ◌+◌, ◌<◌, ◌≤◌, ◌^◌, length, arith}
+use Rattle.std.proofs.Common.{◌≡◌, ◌∙◌, ap, sym, refl, subst, List, [], ◌∷◌, ◌++◌, reverse, map, Option, None, Ok, ℕ, ◌==◌, ◌+◌, ◌<◌, ◌≤◌, ◌^◌, length, arith, Vec, Global as Heap}
 use Rattle.std.specs.List.{find}
 use Rattle.std.proofs.lemmas.List.{reverse-append}
-use Rattle.gimple_ir.specs.declared.program.Program.{Program}
+use Rattle.gimple_core.specs.Sealed.{Sealed}
 use Rattle.gimple_ir.specs.declared.block.Block.{Block}
 use Rattle.gimple_ir.specs.declared.value.Value.{Value}
 use Rattle.gimple_ir.specs.declared.value.Outcome.TheVariants.{Going}
 use Rattle.gimple_ir.specs.declared.value.TrapKind.TheVariants.{Abort as AbortTrap}
-use Rattle.gimple_core.specs.declared.machine.Cell.{Cell}
-use Rattle.std.specs.Str.{bytes_eq}
 use Rattle.gimple_core.specs.Memory.{Memory, without_frame}
 use Rattle.gimple_core.specs.State as meant
-use Rattle.gimple_core.specs.State.{State, scope_of}
-use Rattle.gimple_core.specs.Run.{Moves, CallReturn, CallEntry, Traps, Calling, call, function_named, with_locals, cells_made, values_of, returned, given, paused}
+use Rattle.gimple_core.specs.State.{State}
+use Rattle.gimple_core.specs.Run.{Reached, Moves, Jump, CallReturn, CallEntry, Traps, jump, jumped, enter, entered, with_locals, registers_made, returned, given, paused}
 use Rattle.gimple_exec.specs.declared.machine.Machine.{Machine}
 use Rattle.gimple_exec.specs.declared.machine.Waiting.{Waiting}
 use Rattle.gimple_exec.specs.declared.machine.Stand.{Stand}
 use Rattle.gimple_exec.specs.declared.machine.Reach.TheVariants.{Moves as HasMoved, Spent as HasSpent}
 use Rattle.gimple_exec.specs.Acts.{world_of}
-use Rattle.gimple_exec.specs.Machines.{state_of, frame_of, control_of, function_of, no_function, IsSound, IsPlaced, ArePlaced, Arrives, Begins}
+use Rattle.gimple_exec.specs.Machines.{state_of, frame_of, control_of, function_of, no_block, IsSound, IsPlaced, ArePlaced, Arrives, Begins}
 use Rattle.gimple_exec.specs.Places.{IsFirstAt}
+use Rattle.gimple_exec.proofs.BlockLemmas.{labelled_some, labelled_none}
 
 -- a machine that goes on in the frame of w
-abbrev pub left_in : Machine → Machine → Waiting → List Cell → Memory → Machine
-left_in m rest w cells memory = record {
+abbrev pub left_in : Machine → Machine → Waiting → Vec Value Heap → Memory → Machine
+left_in m rest w registers memory = record {
   top = w.stand;
   below = rest.below;
-  world = record m.world { cells = cells; memory = memory };
+  world = record m.world { registers = registers; memory = memory };
   next = m.next;
 }
 
-pub leave_arrives : (p : Program) (m rest : Machine) (v : Option Value) (w : Waiting) (cells : List Cell) (memory : Memory) → m.below.items ≡ rest.below.items ++ w ∷ [] → cells ≡ given w.cells m.top.takes v → memory ≡ without_frame m.top.serial m.world.memory → IsSound p m → Arrives p m.next HasMoved (returned (state_of p m) v (state_of p m).below) (left_in m rest w cells memory)
-leave_arrives p m rest v w cells memory e a b sound =
+pub leave_arrives : (p : Sealed) (m rest : Machine) (v : Option Value) (w : Waiting) (registers : Vec Value Heap) (memory : Memory) → m.below.items ≡ rest.below.items ++ w ∷ [] → registers.items ≡ given w.registers.items m.top.takes v → memory ≡ without_frame m.top.serial m.world.memory → IsSound p m → Arrives p m.next HasMoved (returned (state_of p m) v (state_of p m).below) (left_in m rest w registers memory)
+leave_arrives p m rest v w registers memory e a b sound =
     let back : reverse m.below.items ≡ w ∷ reverse rest.below.items = ap reverse e ∙ reverse-append rest.below.items (w ∷ []) in
     let placed : ArePlaced p (w ∷ reverse rest.below.items) = subst (λ ws. ArePlaced p ws) back sound.below in
     (CallReturn, rw (back, a, b) refl, record { top = placed.0; below = placed.1 }, omega arith)
 
+-- ---- a jump
+
+-- a machine that goes on in a block
+abbrev pub jumped_to : Machine → ℕ → Machine
+jumped_to m k = record m { top = record m.top { block = k; index = 0 } }
+
+pub jump_some : (p : Sealed) (m : Machine) (label k : ℕ) → IsFirstAt (λ b. b.label == label) (function_of p m.top.function).blocks k → IsSound p m → Arrives p m.next HasMoved (jump (state_of p m) label) (jumped_to m k)
+jump_some p m label k at sound =
+    (Jump, ap (jumped (state_of p m)) (labelled_some label (function_of p m.top.function).blocks k no_block at), record { top = record { function = sound.top.function; block = at.within; index = omega arith }; below = sound.below }, omega arith)
+
+pub jump_none : (p : Sealed) (m : Machine) (label : ℕ) → find (λ b. b.label == label) (function_of p m.top.function).blocks ≡ None → jump (state_of p m) label ≡ Traps m.world.output AbortTrap
+jump_none p m label none = ap (jumped (state_of p m)) (labelled_none label (function_of p m.top.function).blocks none)
+
 -- ---- a call
 
-pub call_none : (p : Program) (m : Machine) (c : Calling) → find (λ f. bytes_eq f.name c.callee) p.functions ≡ None → call p c (state_of p m) ≡ Traps m.world.output AbortTrap
-unfolding function_named
-call_none p m c e = rw e refl
+-- the call of a function that is found
+abbrev pub opens : Sealed → Machine → Option ℕ → List Value → ℕ → Reached
+opens p m takes arguments k = enter p.program.structs (state_of p m) takes arguments (Ok (function_of p k))
 
-pub call_empty : (p : Program) (m : Machine) (c : Calling) (k : ℕ) → IsFirstAt (λ f. bytes_eq f.name c.callee) p.functions k → (function_of p k).blocks ≡ [] → call p c (state_of p m) ≡ Traps m.world.output AbortTrap
-unfolding function_named
-call_empty p m c k at e = rw (at.found no_function, e) refl
+pub opens_empty : (p : Sealed) (m : Machine) (takes : Option ℕ) (arguments : List Value) (k : ℕ) → (function_of p k).blocks ≡ [] → opens p m takes arguments k ≡ Traps m.world.output AbortTrap
+opens_empty p m takes arguments k e = ap (entered p.program.structs (state_of p m) takes arguments (function_of p k)) e
 
 -- a state by the parts of a machine
-abbrev state_by : Program → Stand → List Waiting → meant.World → ℕ → State
+abbrev state_by : Sealed → Stand → List Waiting → meant.World → ℕ → State
 state_by p stand ws world next = record { top = control_of p stand; below = map (frame_of p) (reverse ws); world = world; next = next }
 
--- the registers of a call that begins
-abbrev pub made : Program → Machine → Calling → ℕ → List Cell
-made p m c k = cells_made (function_of p k).params (values_of p.globals (scope_of (control_of p m.top)) m.world.cells c.arguments) 0 ++ cells_made (function_of p k).registers [] 0
+-- the memory in which a call begins
+abbrev pub held : Sealed → Machine → ℕ → Memory
+held p m k = with_locals p.program.structs m.next 0 (function_of p k).locals m.world.memory
 
--- the memory in which it begins
-abbrev pub held : Program → Machine → ℕ → Memory
-held p m k = with_locals p.structs m.next 0 (function_of p k).locals m.world.memory
+opens_some : (p : Sealed) (m : Machine) (takes : Option ℕ) (arguments : List Value) (k : ℕ) (registers : List Value) (b : Block) (bs : List Block) → (function_of p k).blocks ≡ b ∷ bs → registers ≡ registers_made (function_of p k) arguments → opens p m takes arguments k ≡ Moves CallEntry (state_by p (record { function = k; block = 0; index = 0; serial = m.next; takes = takes }) (m.below.items ++ record { stand = m.top; registers = m.world.registers } ∷ []) (record (world_of m.world) { registers = registers; memory = held p m k }) (m.next + 1))
+opens_some p m takes arguments k registers b bs e made =
+    rw (e, reverse-append m.below.items (record { stand = m.top; registers = m.world.registers } ∷ []), made) refl
 
-call_begins : (p : Program) (m : Machine) (c : Calling) (k : ℕ) (cells : List Cell) (b : Block) (bs : List Block) → IsFirstAt (λ f. bytes_eq f.name c.callee) p.functions k → (function_of p k).blocks ≡ b ∷ bs → cells ≡ made p m c k → call p c (state_of p m) ≡ Moves CallEntry (state_by p (record { function = k; block = 0; index = 0; serial = m.next; takes = c.to }) (m.below.items ++ record { stand = m.top; cells = m.world.cells } ∷ []) (record (world_of m.world) { cells = cells; memory = held p m k }) (m.next + 1))
-unfolding function_named
-call_begins p m c k cells b bs at e made =
-    rw (at.found no_function, e, reverse-append m.below.items (record { stand = m.top; cells = m.world.cells } ∷ []), made) refl
-
-begun_placed : (p : Program) (m : Machine) (k : ℕ) (takes : Option (List ℕ)) (cells : List Cell) (memory : Memory) (new : Machine) (b : Block) (bs : List Block) → k < length p.functions → (function_of p k).blocks ≡ b ∷ bs → Begins m k takes cells memory new → IsSound p m → IsSound p new
-begun_placed p m k takes cells memory new b bs within e begins sound =
-    let back : reverse new.below.items ≡ record { stand = m.top; cells = m.world.cells } ∷ reverse m.below.items = ap reverse begins.below ∙ reverse-append m.below.items (record { stand = m.top; cells = m.world.cells } ∷ []) in
+begun_placed : (p : Sealed) (m : Machine) (k : ℕ) (takes : Option ℕ) (registers : List Value) (memory : Memory) (new : Machine) (b : Block) (bs : List Block) → k < length p.program.functions → (function_of p k).blocks ≡ b ∷ bs → Begins m k takes registers memory new → IsSound p m → IsSound p new
+begun_placed p m k takes registers memory new b bs within e begins sound =
+    let back : reverse new.below.items ≡ record { stand = m.top; registers = m.world.registers } ∷ reverse m.below.items = ap reverse begins.below ∙ reverse-append m.below.items (record { stand = m.top; registers = m.world.registers } ∷ []) in
     let some : 0 < length (function_of p k).blocks = rw e (omega arith) in
     record {
       top = subst (λ (x : Stand). IsPlaced p x) (sym begins.top) (record { function = within; block = some; index = omega arith });
       below = subst (λ ws. ArePlaced p ws) (sym back) (sound.top, sound.below);
     }
 
-begun_arrives : (p : Program) (m : Machine) (c : Calling) (k : ℕ) (cells : List Cell) (new : Machine) (b : Block) (bs : List Block) → IsFirstAt (λ f. bytes_eq f.name c.callee) p.functions k → (function_of p k).blocks ≡ b ∷ bs → cells ≡ made p m c k → Begins m k c.to cells (held p m k) new → IsSound p m → Arrives p m.next HasMoved (call p c (state_of p m)) new
-begun_arrives p m c k cells new b bs at e made begins sound =
-    let same : state_by p (record { function = k; block = 0; index = 0; serial = m.next; takes = c.to }) (m.below.items ++ record { stand = m.top; cells = m.world.cells } ∷ []) (record (world_of m.world) { cells = cells; memory = held p m k }) (m.next + 1) ≡ state_of p new =
+begun_arrives : (p : Sealed) (m : Machine) (takes : Option ℕ) (arguments : List Value) (k : ℕ) (registers : List Value) (new : Machine) (b : Block) (bs : List Block) → k < length p.program.functions → (function_of p k).blocks ≡ b ∷ bs → registers ≡ registers_made (function_of p k) arguments → Begins m k takes registers (held p m k) new → IsSound p m → Arrives p m.next HasMoved (opens p m takes arguments k) new
+begun_arrives p m takes arguments k registers new b bs within e made begins sound =
+    let same : state_by p (record { function = k; block = 0; index = 0; serial = m.next; takes = takes }) (m.below.items ++ record { stand = m.top; registers = m.world.registers } ∷ []) (record (world_of m.world) { registers = registers; memory = held p m k }) (m.next + 1) ≡ state_of p new =
     λ i. state_by p (sym begins.top i) (sym begins.below i) (sym begins.world i) (sym begins.next i) in
     let next : new.next ≡ m.next + 1 = begins.next in
-    (CallEntry, call_begins p m c k cells b bs at e made ∙ ap (Moves CallEntry) same, begun_placed p m k c.to cells (held p m k) new b bs at.within e begins sound, omega (arith, next))
+    (CallEntry, opens_some p m takes arguments k registers b bs e made ∙ ap (Moves CallEntry) same, begun_placed p m k takes registers (held p m k) new b bs within e begins sound, omega (arith, next))
 
-enters_by : (p : Program) (m : Machine) (c : Calling) (k : ℕ) (cells : List Cell) (new : Machine) (bs : List Block) → (function_of p k).blocks ≡ bs → (bs ≡ [] → ⊥) → IsFirstAt (λ f. bytes_eq f.name c.callee) p.functions k → cells ≡ made p m c k → Begins m k c.to cells (held p m k) new → IsSound p m → Arrives p m.next HasMoved (call p c (state_of p m)) new
-enters_by p m c k cells new [] e some at made begins sound = absurd (some refl)
-enters_by p m c k cells new (b ∷ bs) e some at made begins sound = begun_arrives p m c k cells new b bs at e made begins sound
+enters_by : (p : Sealed) (m : Machine) (takes : Option ℕ) (arguments : List Value) (k : ℕ) (registers : List Value) (new : Machine) (bs : List Block) → k < length p.program.functions → (function_of p k).blocks ≡ bs → (bs ≡ [] → ⊥) → registers ≡ registers_made (function_of p k) arguments → Begins m k takes registers (held p m k) new → IsSound p m → Arrives p m.next HasMoved (opens p m takes arguments k) new
+enters_by p m takes arguments k registers new [] within e some made begins sound = absurd (some refl)
+enters_by p m takes arguments k registers new (b ∷ bs) within e some made begins sound = begun_arrives p m takes arguments k registers new b bs within e made begins sound
 
-pub enters : (p : Program) (m : Machine) (c : Calling) (k : ℕ) (cells : List Cell) (new : Machine) → ((function_of p k).blocks ≡ [] → ⊥) → IsFirstAt (λ f. bytes_eq f.name c.callee) p.functions k → cells ≡ made p m c k → Begins m k c.to cells (held p m k) new → IsSound p m → Arrives p m.next HasMoved (call p c (state_of p m)) new
-enters p m c k cells new some = enters_by p m c k cells new (function_of p k).blocks refl some
+pub enters : (p : Sealed) (m : Machine) (takes : Option ℕ) (arguments : List Value) (k : ℕ) (registers : List Value) (new : Machine) → k < length p.program.functions → ((function_of p k).blocks ≡ [] → ⊥) → registers ≡ registers_made (function_of p k) arguments → Begins m k takes registers (held p m k) new → IsSound p m → Arrives p m.next HasMoved (opens p m takes arguments k) new
+enters p m takes arguments k registers new within some = enters_by p m takes arguments k registers new (function_of p k).blocks within refl some
 
-spent_by : (p : Program) (m : Machine) (c : Calling) (k : ℕ) (bs : List Block) → (function_of p k).blocks ≡ bs → (bs ≡ [] → ⊥) → IsFirstAt (λ f. bytes_eq f.name c.callee) p.functions k → paused (call p c (state_of p m)) ≡ Going m.world.output
-spent_by p m c k [] e some at = absurd (some refl)
-spent_by p m c k (b ∷ bs) e some at = ap paused (call_begins p m c k (made p m c k) b bs at e refl)
+spent_by : (p : Sealed) (m : Machine) (takes : Option ℕ) (arguments : List Value) (k : ℕ) (bs : List Block) → (function_of p k).blocks ≡ bs → (bs ≡ [] → ⊥) → paused (opens p m takes arguments k) ≡ Going m.world.output
+spent_by p m takes arguments k [] e some = absurd (some refl)
+spent_by p m takes arguments k (b ∷ bs) e some = ap paused (opens_some p m takes arguments k (registers_made (function_of p k) arguments) b bs e refl)
 
 -- a call that no serial is left for
-pub spent : (p : Program) (m : Machine) (c : Calling) (k : ℕ) → ((function_of p k).blocks ≡ [] → ⊥) → IsFirstAt (λ f. bytes_eq f.name c.callee) p.functions k → 2 ^ 64 ≤ m.next → Arrives p m.next HasSpent (call p c (state_of p m)) m
-spent p m c k some at l = (l, spent_by p m c k (function_of p k).blocks refl some at)
+pub spent : (p : Sealed) (m : Machine) (takes : Option ℕ) (arguments : List Value) (k : ℕ) → ((function_of p k).blocks ≡ [] → ⊥) → 2 ^ 64 ≤ m.next → Arrives p m.next HasSpent (opens p m takes arguments k) m
+spent p m takes arguments k some l = (l, spent_by p m takes arguments k (function_of p k).blocks refl some)

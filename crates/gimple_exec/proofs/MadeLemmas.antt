@@ -1,4 +1,4 @@
--- Slots and objects that are made one after another.
+-- Registers, slots and objects that are made one after another.
 use Rattle.std.proofs.Common.{◌≡◌, ◌∙◌, ap, sym, refl, ℕ, zero, suc, false, map, ◌+◌, ◌<◌, ◌≤◌, List, [], ◌∷◌, ◌++◌, length, drop, get_or, slice_get, unwrap_or, append_assoc, append-nil, add-one, drop-cons}
 use Rattle.std.proofs.Math.ListN.{drop_of_length-le}
 use Rattle.gimple_ir.specs.declared.value.Value.{Value}
@@ -14,7 +14,20 @@ use Rattle.gimple_core.specs.Memory.{Memory}
 use Rattle.gimple_core.specs.Layout.{layout_of}
 use Rattle.gimple_ir.specs.declared.value.Layout.{Layout}
 use Rattle.gimple_exec.specs.Tables.{layouts_of, with_layouts}
-use Rattle.gimple_core.specs.Run.{filled, with_object, with_locals, with_globals, item_value}
+use Rattle.gimple_ir.specs.declared.declarations.Register.{Register}
+use Rattle.gimple_core.specs.Run.{values_made, filled, with_object, with_locals, with_globals, item_value}
+
+-- ---- the registers of a call that begins
+
+pub values_more : (values : List Value) (rs : List Register) (vs : List Value) (k : ℕ) (x : Register) → k < length rs → x ≡ get_or rs k x → (values ++ unwrap_or (slice_get vs k) (zero_of x.scalar) ∷ []) ++ values_made (drop (k + 1) rs) vs (k + 1) ≡ values ++ values_made (drop k rs) vs k
+unfolding values_made
+values_more values rs vs k x l e =
+    let f : drop k rs ≡ x ∷ drop (suc k) rs = drop-cons rs k x l ∙ ap (λ (y : Register). y ∷ drop (suc k) rs) (sym e) in
+    rw (f, add-one, append_assoc) refl
+
+pub values_all : (values : List Value) (rs : List Register) (vs : List Value) (k : ℕ) → length rs ≤ k → values ++ values_made (drop k rs) vs k ≡ values
+unfolding values_made
+values_all values rs vs k l = rw (drop_of_length-le rs l, append-nil) refl
 
 -- ---- the slots of an object, and the objects of a frame and of a program, one more at a time
 

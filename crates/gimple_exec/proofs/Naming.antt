@@ -1,6 +1,6 @@
 -- The place of the first item that passes.
 use Rattle.std.proofs.Common.{◌≡◌, sym, refl, ℕ, ◌<◌, ◌≤◌, Bool, true, false, cond, nat_lt, List, [], ◌∷◌, length, Option, Some, None, arith}
-use Rattle.std.specs.List.{find, position, position_or_len}
+use Rattle.std.specs.List.{position, position_or_len}
 use Rattle.std.proofs.lemmas.Bool.{ltb-false}
 use Rattle.std.proofs.lemmas.List.Sums.{fails_before_first}
 use Rattle.std.proofs.lemmas.List.Quantifiers.{position-Some}
@@ -21,14 +21,15 @@ place_by p (x ∷ xs) (Some k) e =
     let found = position-Some p (x ∷ xs) k x (sym e) in
     first_at p (x ∷ xs) k x found.0 (λ i d l. (position-Some p (x ∷ xs) k d (sym e)).2 i l) found.1
 
--- a place by the number of the first that passes
-pub place_here : {X : Type 0} (p : X → Bool) (xs : List X) (k : ℕ) → k ≡ position_or_len p xs → k < length xs → IsPlace p xs (Some k)
-place_here p xs k e l =
+-- the position of the first that passes, by its number
+pub position_here : {X : Type 0} (p : X → Bool) (xs : List X) (k : ℕ) → k ≡ position_or_len p xs → k < length xs → Some k ≡ position p xs
+position_here p xs k e l =
     let back : position_or_len p xs ≡ k = sym e in
     let at : position p xs ≡ Some k = rw back (grind arith) in
-    place_by p xs (Some k) (sym at)
+    sym at
 
-pub place_missing : {X : Type 0} (p : X → Bool) (xs : List X) (k : ℕ) → k ≡ position_or_len p xs → length xs ≤ k → find p xs ≡ None
-place_missing p xs k e l =
-    let high : length xs ≤ position_or_len p xs = omega (arith, e, l) in
-    place_none p xs (position_or_len p xs) (λ i d b. fails_before_first p xs i d b) (omega (arith, high))
+pub position_missing : {X : Type 0} (p : X → Bool) (xs : List X) (k : ℕ) → k ≡ position_or_len p xs → length xs ≤ k → None ≡ position p xs
+position_missing p xs k e l =
+    let back : position_or_len p xs ≡ k = sym e in
+    let at : position p xs ≡ None = rw back (grind arith) in
+    sym at

@@ -1,6 +1,6 @@
 -- The next statement, by its place.
 use Rattle.std.proofs.Common.{◌≡◌, ◌∙◌, ap, sym, refl, subst, ℕ, zero, suc, ◌+◌, ◌<◌, length, arith, List, [], ◌∷◌, drop, slice_get, Some, None, add-one}
-use Rattle.gimple_ir.specs.declared.program.Program.{Program}
+use Rattle.gimple_core.specs.Sealed.{Sealed}
 use Rattle.gimple_ir.specs.declared.block.Block.{Block}
 use Rattle.gimple_ir.specs.declared.statement.Stmt.{Stmt}
 use Rattle.gimple_core.specs.State.{State}
@@ -27,12 +27,12 @@ drop_some (x ∷ xs) (suc i) y e = drop_some xs i y e
 abbrev pub moved_on : Machine → Machine
 moved_on m = record m { top = record m.top { index = m.top.index + 1 } }
 
-pub step_end : (p : Program) (m : Machine) (b : Block) → b ≡ block_of (function_of p m.top.function) m.top.block → slice_get b.body m.top.index ≡ None → step p (state_of p m) ≡ Reaches (finish p.globals b.end (state_of p m))
+pub step_end : (p : Sealed) (m : Machine) (b : Block) → b ≡ block_of (function_of p m.top.function) m.top.block → slice_get b.body m.top.index ≡ None → step p (state_of p m) ≡ Reaches (finish p.program.globals b.end (state_of p m))
 step_end p m b e g =
     let rest : drop m.top.index (block_of (function_of p m.top.function) m.top.block).body ≡ [] = subst (λ (c : Block). drop m.top.index c.body ≡ []) e (drop_none b.body m.top.index g) in
-    ap (stepped p (state_of p m)) rest ∙ ap (λ (c : Block). Reaches (finish p.globals c.end (state_of p m))) (sym e)
+    ap (stepped p (state_of p m)) rest ∙ ap (λ (c : Block). Reaches (finish p.program.globals c.end (state_of p m))) (sym e)
 
-pub step_stmt : (p : Program) (m : Machine) (b : Block) (x : Stmt) → b ≡ block_of (function_of p m.top.function) m.top.block → slice_get b.body m.top.index ≡ Some x → step p (state_of p m) ≡ perform p x (state_of p (moved_on m))
+pub step_stmt : (p : Sealed) (m : Machine) (b : Block) (x : Stmt) → b ≡ block_of (function_of p m.top.function) m.top.block → slice_get b.body m.top.index ≡ Some x → step p (state_of p m) ≡ perform p x (state_of p (moved_on m))
 step_stmt p m b x e g =
     let rest : drop m.top.index (block_of (function_of p m.top.function) m.top.block).body ≡ x ∷ drop (suc m.top.index) (block_of (function_of p m.top.function) m.top.block).body = subst (λ (c : Block). drop m.top.index c.body ≡ x ∷ drop (suc m.top.index) c.body) e (drop_some b.body m.top.index x g) in
     ap (stepped p (state_of p m)) rest ∙ rw add-one refl
@@ -40,18 +40,18 @@ step_stmt p m b x e g =
 -- ---- walks
 
 -- the walk goes on from the state that a step goes to
-pub walk_goes : (p : Program) (s t : State) → step p s ≡ Goes t → walk p s.top.rest s ≡ walk p t.top.rest t
+pub walk_goes : (p : Sealed) (s t : State) → step p s ≡ Goes t → walk p s.top.rest s ≡ walk p t.top.rest t
 walk_goes p s t e = walk_step p s.top.rest s ∙ ap (λ d. then_walk d (λ u. walk p u.top.rest u)) e
 
-ends_by : (p : Program) (n : ℕ) (reach : Reach) (m : Machine) (d : Did) (r : Reached) → r ≡ then_walk d (λ u. walk p u.top.rest u) → ArrivesBy p n reach d m → Arrives p n reach r m
+ends_by : (p : Sealed) (n : ℕ) (reach : Reach) (m : Machine) (d : Did) (r : Reached) → r ≡ then_walk d (λ u. walk p u.top.rest u) → ArrivesBy p n reach d m → Arrives p n reach r m
 ends_by p n reach m (Goes t) r e a = absurd a
 ends_by p n reach m (Reaches q) r e a = subst (λ v. Arrives p n reach v m) (sym e) a
 
 -- the walk ends where a step does
-pub walk_ends : (p : Program) (s : State) (n : ℕ) (reach : Reach) (m : Machine) → ArrivesBy p n reach (step p s) m → Arrives p n reach (walk p s.top.rest s) m
+pub walk_ends : (p : Sealed) (s : State) (n : ℕ) (reach : Reach) (m : Machine) → ArrivesBy p n reach (step p s) m → Arrives p n reach (walk p s.top.rest s) m
 walk_ends p s n reach m a = ends_by p n reach m (step p s) (walk p s.top.rest s) (walk_step p s.top.rest s) a
 
-rest_goes : (p : Program) (s t : State) (xs : List Stmt) → stepped p s xs ≡ Goes t → length t.top.rest < length xs
+rest_goes : (p : Sealed) (s t : State) (xs : List Stmt) → stepped p s xs ≡ Goes t → length t.top.rest < length xs
 rest_goes p s t [] e = cc
 rest_goes p s t (x ∷ xs) e =
     let k : t.top.rest ≡ xs = subst (KeepsRest xs) e (perform_rest p x (resumed s xs)) in
@@ -59,5 +59,5 @@ rest_goes p s t (x ∷ xs) e =
     omega (arith, l)
 
 -- a step that goes on leaves fewer statements
-pub step_shortens : (p : Program) (s t : State) → step p s ≡ Goes t → length t.top.rest < length s.top.rest
+pub step_shortens : (p : Sealed) (s t : State) → step p s ≡ Goes t → length t.top.rest < length s.top.rest
 step_shortens p s t e = rest_goes p s t s.top.rest e

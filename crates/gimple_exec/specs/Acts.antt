@@ -6,7 +6,7 @@ use Rattle.gimple_exec.specs.declared.world.World.{World}
 
 -- the world that the interpreter's one stands for
 abbrev pub world_of : World → meant.World
-world_of w = record { cells = w.cells; memory = w.memory; input = w.input; taken = w.taken; output = w.output }
+world_of w = record { registers = w.registers.items; memory = w.memory; input = w.input; taken = w.taken; output = w.output }
 
 -- no trap, and the world afterwards; or a trap, with nothing printed
 abbrev pub Acts : World → Option TrapKind → Result meant.World TrapKind → World → Type 0

@@ -12,7 +12,7 @@ use Rattle.gimple_core.specs.Layout.{layout_of}
 use Rattle.gimple_core.specs.Memory.{Memory}
 use Rattle.gimple_core.specs.Run.{with_object}
 use Rattle.gimple_exec.specs.declared.function_tables.FunctionTables.{FunctionTables}
-use Rattle.gimple_exec.specs.Frames.{declared_by}
+use Rattle.gimple_core.specs.State.{registers_of}
 
 abbrev pub labels_of : List Block → List ℕ
 labels_of bs = map (λ b. b.label) bs
@@ -25,7 +25,7 @@ abbrev pub tables_of : List StructDef → Function → FunctionTables
 tables_of structs f = record {
   labels = labels_of f.blocks;
   layouts = layouts_of structs f.locals;
-  registers = declared_by f;
+  registers = registers_of f;
   locals = f.locals;
 }
 

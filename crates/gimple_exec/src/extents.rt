@@ -1,6 +1,7 @@
 //! The extents of the objects that live.
 
 ghost use Rattle.std.specs.Prelude.{◌≡◌, ◌++◌, ◌∷◌, [], find, filter, OnOk};
+ghost use Rattle.std.specs.Option.{option_copied};
 ghost use Rattle.gimple_core.specs.Memory.{same_object, is_elsewhere};
 
 use crate::rows::{Placed, Rows};
@@ -65,8 +66,8 @@ impl Extents {
     }
 
     /// The first extent of an object.
-    pub fn found(&self, object: Object) -> Option<Extent>
-        ensures { result ≡ find (λ x. same_object x.object object) self.now }
+    pub fn found(&self, object: Object) -> Option<&Extent>
+        ensures { option_copied result ≡ find (λ x. same_object x.object object) self.now }
     {
         self.rows.found(&Extent {
             object,

@@ -3,7 +3,7 @@
 ghost use Rattle.std.specs.Prelude.{◌≡◌, ◌++◌, ◌≤◌, ◌^◌, IfOk, OnOk};
 ghost use Rattle.std.specs.List.{All};
 ghost use Rattle.gimple_core.specs.Layout.{layout_of};
-ghost use Rattle.gimple_exec.specs.Frames.{declared_by};
+ghost use Rattle.gimple_core.specs.State.{registers_of};
 ghost use Rattle.gimple_exec.specs.Tables.{labels_of, layouts_of, tables_of};
 
 use gimple_core::{Block, Decl, Exact, Function, Layout, Listed, OutOfMemory, Register};
@@ -56,7 +56,7 @@ fn put_copies(registers: &[Register], table: &mut RegisterTable) -> Result<(), O
 }
 
 fn registers_of(alloc: Heap, function: &Function) -> Result<RegisterTable, OutOfMemory>
-    ensures { IfOk result (λ registers. registers ≡ declared_by function.now) }
+    ensures { IfOk result (λ registers. registers ≡ registers_of function.now) }
 {
     let mut table = RegisterTable::new(alloc);
     put_copies(function.params.as_slice(), &mut table)?;

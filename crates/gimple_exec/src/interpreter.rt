@@ -21,13 +21,14 @@ fn first_machine<'t>(
     input: &[i64],
 ) -> Result<Machine<'t>, OutOfMemory>
     requires limits { IsLimited program.now }
-    requires within { k < length program.now.functions }
+    requires within { k < length program.now.program.functions }
     ensures { IfOk result (λ m. IsFirst program.now k input.now m) }
 {
     let mut memory = Memory::new(alloc);
     memory.add_program(alloc, program)?;
     memory.add_frame(program, k, 0)?;
-    let cells = entry::registers(alloc, program, k, &[])?;
+    let arguments = Vec::new(alloc);
+    let registers = entry::registers(alloc, program.function_at(k), arguments.as_slice())?;
     let input = Listed::from_vec(Vec::from_slice(alloc, input)?);
     Ok(Machine {
         top: Stand {
@@ -39,7 +40,7 @@ fn first_machine<'t>(
         },
         below: Vec::new(alloc),
         world: World {
-            cells,
+            registers,
             memory,
             input,
             taken: 0,
@@ -58,8 +59,7 @@ fn start<'t>(
     requires { IsLimited program.now }
     ensures { IfOk result (λ o. Starts program.now input.now o) }
 {
-    let name = Text::from_bytes(alloc, b"main")?;
-    let Some(k) = program.named_place(&name) else {
+    let Some(k) = program.named_place(b"main") else {
         return Ok(None);
     };
     if program.is_bodiless(k) {
@@ -123,9 +123,9 @@ pub fn run(
 ) -> Result<Outcome, OutOfMemory>
     requires globals { length program.now.program.globals < 2 ^ 32 }
     requires locals { All (λ f. length f.locals < 2 ^ 32) program.now.program.functions }
-    ensures { IfOk result (λ o. o ≡ Run program.now.program input.now turns) }
+    ensures { IfOk result (λ o. o ≡ Run program.now input.now turns) }
 {
-    let program = program.program();
-    let indexed = Indexed::new(alloc, program)?;
+    let mode = program.mode();
+    let indexed = Indexed::new(alloc, program.program(), mode)?;
     run_indexed(alloc, &indexed, input, turns)
 }

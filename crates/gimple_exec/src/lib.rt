@@ -1,7 +1,6 @@
 //! An interpreter of programs: what a program comes to on an input.
 #![tactic(auto)]
 
-mod cells;
 mod entry;
 mod extents;
 mod function_tables;
@@ -10,6 +9,7 @@ mod interpreter;
 mod machine;
 mod memory;
 mod order;
+mod registers;
 mod rows;
 mod scope;
 mod slots;

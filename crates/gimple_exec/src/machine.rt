@@ -1,17 +1,16 @@
 //! The machine of a run, and its steps.
 
-ghost use Rattle.std.specs.Prelude.{◌≡◌, ◌<◌, ◌^◌, length, [], ◌++◌, IfOk, OnOk, find};
+ghost use Rattle.std.specs.Prelude.{◌≡◌, ◌<◌, ◌^◌, length, Ok, IfOk, OnOk, find};
 ghost use Rattle.std.specs.Option.{option_copied};
 ghost use Rattle.gimple_core.specs.Operators.{cmp_of};
 ghost use Rattle.gimple_core.specs.Run.{status_of, given, case_for};
 ghost use Rattle.gimple_exec.specs.Machines.{function_of};
 
-use crate::cells::Cells;
 use crate::indexed::Indexed;
 use crate::world::World;
-use crate::{entry, values};
+use crate::{entry, registers, values};
 use gimple_core::{
-    Case, Cases, Cmp, End, Exact, Operand, OutOfMemory, Scalar, Stmt, Text, TrapKind, Value,
+    Case, Cases, Cmp, End, Operand, OutOfMemory, Scalar, Signature, Stmt, Text, TrapKind, Value,
     eval_cmp,
 };
 use std::alloc::Global as Heap;
@@ -24,14 +23,14 @@ pub struct Stand {
     pub block: usize,
     pub index: usize,
     pub serial: u64,
-    pub takes: Option<Text>,
+    pub takes: Option<usize>,
 }
 
 /// A call that waits for another one.
 #[derive(Drop)]
 pub struct Waiting<'t> {
     pub stand: Stand,
-    pub cells: Cells<'t>,
+    pub registers: Vec<Value<'t>>,
 }
 
 /// The state of a run. The next serial may be 2^64, which no frame has.
@@ -61,9 +60,10 @@ pub enum Step {
 }
 
 impl<'t> Machine<'t> {
-    ghost use Rattle.gimple_core.specs.Run.{jump, returned, call, cells_made, values_of, value_of, any_number, finish, perform, step, with_locals, walk};
-    ghost use Rattle.gimple_core.specs.State.{scope_of};
-    ghost use Rattle.gimple_exec.specs.Machines.{state_of, control_of, IsSound, IsLimited, Leads, Arrives, Begins};
+    ghost use Rattle.gimple_core.specs.Run.{jump, returned, Named, Through, enter, taking, called_through, call, registers_made, values_of, value_of, any_number, finish, perform, act, acted, step, with_locals, walk};
+    ghost use Rattle.gimple_core.specs.State.{scope_of, setting_of, value_in};
+    ghost use Rattle.gimple_exec.specs.Acts.{world_of};
+    ghost use Rattle.gimple_exec.specs.Machines.{state_of, control_of, IsSound, IsLimited, IsCalled, Leads, Arrives, Begins};
 
     fn jump(&mut self, program: &Indexed<'_>, label: u64) -> Reach
         requires { IsSound program.now self.old }
@@ -79,67 +79,136 @@ impl<'t> Machine<'t> {
         }
     }
 
-    fn leave(&mut self, program: &Indexed<'_>, value: Option<Value>) -> Reach
+    fn leave(&mut self, program: &Indexed<'_>, value: Option<Value<'t>>) -> Reach
         requires { IsSound program.now self.old }
-        ensures { Arrives program.now self.old.next result (returned (state_of program.now self.old) value (state_of program.now self.old).below) self.new }
+        ensures { Arrives program.now self.old.next result (returned (state_of program.now self.old) value.entry (state_of program.now self.old).below) self.new }
     {
         match self.below.pop() {
-            None => Reach::Stops(status(value)),
+            None => Reach::Stops(status(&value)),
             Some(waiting) => {
-                let Waiting { stand, mut cells } = waiting;
-                give(&mut cells, &self.top.takes, value);
+                let Waiting {
+                    stand,
+                    mut registers,
+                } = waiting;
+                give(&mut registers, self.top.takes, value);
                 self.world.memory.leave(self.top.serial);
-                self.world.cells = cells;
+                self.world.registers = registers;
                 self.top = stand;
                 Reach::Moves
             }
         }
     }
 
-    /// A call.
+    /// A call of a function that is found.
     fn enter(
         &mut self,
         alloc: Heap,
         program: &'t Indexed<'_>,
         to: &Option<Text>,
-        callee: &Text,
-        operands: &[Operand],
+        k: usize,
+        operands: &'t [Operand],
     ) -> Result<Reach, OutOfMemory>
         requires sound { IsSound program.now self.old }
         requires limits { IsLimited program.now }
-        ensures { IfOk result (λ reach. Arrives program.now self.old.next reach (call program.now (record { to = to.now; callee = callee.now; arguments = operands.now }) (state_of program.now self.old)) self.new) }
+        requires within { k < length program.now.program.functions }
+        ensures { IfOk result (λ reach. Arrives program.now self.old.next reach (enter program.now.program.structs (state_of program.now self.old) (taking (scope_of (control_of program.now self.old.top)) to.now) (values_of program.now.program.globals (scope_of (control_of program.now self.old.top)) self.old.world.registers.items operands.now) (Ok (function_of program.now k))) self.new) }
     {
-        let Some(k) = program.named_place(callee) else {
-            return Ok(Reach::Traps(TrapKind::Abort));
-        };
         if program.is_bodiless(k) {
             return Ok(Reach::Traps(TrapKind::Abort));
         }
         if self.next > u128::from(u64::MAX) {
             return Ok(Reach::Spent);
         }
-        let cells = self.cells_for(alloc, program, k, operands)?;
-        let takes = to.copy()?;
-        self.begin(program, k, takes, cells)?;
+        let registers = self.registers_for(alloc, program, k, operands)?;
+        let takes = self.taking(program, to);
+        self.begin(program, k, takes, registers)?;
         Ok(Reach::Moves)
     }
 
+    /// A call of a function by its name.
+    fn call_named(
+        &mut self,
+        alloc: Heap,
+        program: &'t Indexed<'_>,
+        to: &Option<Text>,
+        callee: &Text,
+        operands: &'t [Operand],
+    ) -> Result<Reach, OutOfMemory>
+        requires sound { IsSound program.now self.old }
+        requires limits { IsLimited program.now }
+        ensures { IfOk result (λ reach. Arrives program.now self.old.next reach (call program.now (record { to = to.now; callee = Named callee.now; arguments = operands.now }) (state_of program.now self.old)) self.new) }
+    {
+        match program.callee(callee.as_slice()) {
+            Ok(k) => self.enter(alloc, program, to, k, operands),
+            Err(kind) => Ok(Reach::Traps(kind)),
+        }
+    }
+
+    /// A call through a register.
+    fn call_through(
+        &mut self,
+        alloc: Heap,
+        program: &'t Indexed<'_>,
+        to: &Option<Text>,
+        signature: &Signature,
+        callee: &Text,
+        operands: &'t [Operand],
+    ) -> Result<Reach, OutOfMemory>
+        requires sound { IsSound program.now self.old }
+        requires limits { IsLimited program.now }
+        ensures { IfOk result (λ reach. Arrives program.now self.old.next reach (call program.now (record { to = to.now; callee = Through callee.now signature.now; arguments = operands.now }) (state_of program.now self.old)) self.new) }
+    {
+        match self.target(program, callee, signature) {
+            Ok(k) => self.enter(alloc, program, to, k, operands),
+            Err(kind) => Ok(Reach::Traps(kind)),
+        }
+    }
+
+    /// The function that a register holds, if it has this signature, or the kind of trap.
+    fn target(
+        &self,
+        program: &Indexed<'_>,
+        callee: &Text,
+        signature: &Signature,
+    ) -> Result<usize, TrapKind>
+        requires sound { IsSound program.now self.now }
+        ensures { IsCalled program.now result (called_through program.now.program.functions signature.now (value_in (scope_of (control_of program.now self.now.top)) self.now.world.registers.items callee.now)) }
+    {
+        let scope = program.scope(self.top.function, self.top.serial);
+        match registers::value(&scope, self.world.registers.as_slice(), callee) {
+            Value::Code(name) => program.target(name.as_slice(), signature),
+            Value::Null => Err(TrapKind::NullAccess),
+            _ => Err(TrapKind::BadCall),
+        }
+    }
+
+    /// The position of the register that takes a call's result.
+    fn taking(&self, program: &Indexed<'_>, to: &Option<Text>) -> Option<usize>
+        requires sound { IsSound program.now self.now }
+        ensures { result ≡ taking (scope_of (control_of program.now self.now.top)) to.now }
+    {
+        match to {
+            Some(name) => registers::place(program.registers(self.top.function), name),
+            None => None,
+        }
+    }
+
     /// The registers of a call that begins.
-    fn cells_for(
+    fn registers_for(
         &self,
         alloc: Heap,
         program: &'t Indexed<'_>,
         k: usize,
-        operands: &[Operand],
-    ) -> Result<Cells<'t>, OutOfMemory>
+        operands: &'t [Operand],
+    ) -> Result<Vec<Value<'t>>, OutOfMemory>
         requires sound { IsSound program.now self.now }
-        requires within { k < length program.now.functions }
+        requires within { k < length program.now.program.functions }
         requires limits { IsLimited program.now }
-        ensures { IfOk result (λ cells. cells ≡ cells_made (function_of program.now k).params (values_of program.now.globals (scope_of (control_of program.now self.now.top)) self.now.world.cells operands.now) 0 ++ cells_made (function_of program.now k).registers [] 0) }
+        ensures { IfOk result (λ held. held.items ≡ registers_made (function_of program.now k) (values_of program.now.program.globals (scope_of (control_of program.now self.now.top)) self.now.world.registers.items operands.now)) }
     {
         let scope = program.scope(self.top.function, self.top.serial);
-        let values = entry::arguments(alloc, &scope, &self.world.cells, operands)?;
-        entry::registers(alloc, program, k, values.as_slice())
+        let values = entry::arguments(alloc, &scope, self.world.registers.as_slice(), operands)?;
+        entry::registers(alloc, program.function_at(k), values.as_slice())
     }
 
     /// Begins a frame, with its locals.
@@ -147,13 +216,13 @@ impl<'t> Machine<'t> {
         &mut self,
         program: &Indexed<'_>,
         function: usize,
-        takes: Option<Text>,
-        cells: Cells<'t>,
+        takes: Option<usize>,
+        registers: Vec<Value<'t>>,
     ) -> Result<(), OutOfMemory>
         requires room { self.old.next < 2 ^ 64 }
         requires limits { IsLimited program.now }
-        requires within { function < length program.now.functions }
-        ensures { OnOk result (Begins self.old function takes cells.entry (with_locals program.now.structs self.old.next 0 (function_of program.now function).locals (self.old.world.memory)) self.new) }
+        requires within { function < length program.now.program.functions }
+        ensures { OnOk result (Begins self.old function takes registers.entry.items (with_locals program.now.program.structs self.old.next 0 (function_of program.now function).locals (self.old.world.memory)) self.new) }
     {
         let serial = self.next as u64;
         self.world.memory.add_frame(program, function, serial)?;
@@ -165,17 +234,17 @@ impl<'t> Machine<'t> {
             takes,
         };
         let stand = mem::replace(&mut self.top, stand);
-        let cells = mem::replace(&mut self.world.cells, cells);
-        self.below.push(Waiting { stand, cells })?;
+        let registers = mem::replace(&mut self.world.registers, registers);
+        self.below.push(Waiting { stand, registers })?;
         self.next += 1;
         Ok(())
     }
 
     /// The end of a block.
-    fn finish(&mut self, program: &Indexed<'_>, end: &End) -> Reach
+    fn finish(&mut self, program: &'t Indexed<'_>, end: &'t End) -> Reach
         requires sound { IsSound program.now self.old }
         requires limits { IsLimited program.now }
-        ensures { Arrives program.now self.old.next result (finish program.now.globals end.now (state_of program.now self.old)) self.new }
+        ensures { Arrives program.now self.old.next result (finish program.now.program.globals end.now (state_of program.now self.old)) self.new }
     {
         match end {
             End::Goto(label) => self.jump(program, *label),
@@ -188,7 +257,7 @@ impl<'t> Machine<'t> {
             } => {
                 let left = self.value(program, left);
                 let right = self.value(program, right);
-                if values::compare(left, *cmp, right) {
+                if values::compare(&left, *cmp, &right) {
                     self.jump(program, *yes)
                 } else {
                     self.jump(program, *no)
@@ -207,13 +276,13 @@ impl<'t> Machine<'t> {
     }
 
     /// The label that a switch leads to.
-    fn chosen(&self, program: &Indexed<'_>, on: &Operand, cases: &Cases, other: u64) -> u64
+    fn chosen(&self, program: &'t Indexed<'_>, on: &'t Operand, cases: &Cases, other: u64) -> u64
         requires sound { IsSound program.now self.now }
         requires limits { IsLimited program.now }
-        ensures { result ≡ case_for (any_number (value_of program.now.globals (scope_of (control_of program.now self.now.top)) self.now.world.cells on.now)) cases.now other }
+        ensures { result ≡ case_for (any_number (value_of program.now.program.globals (scope_of (control_of program.now self.now.top)) self.now.world.registers.items on.now)) cases.now other }
     {
         target(
-            values::any(self.value(program, on)),
+            values::any(&self.value(program, on)),
             cases.as_slice(),
             other,
         )
@@ -241,21 +310,46 @@ impl<'t> Machine<'t> {
         &mut self,
         alloc: Heap,
         program: &'t Indexed<'_>,
-        statement: &Stmt,
+        statement: &'t Stmt,
     ) -> Result<Step, OutOfMemory>
         requires sound { IsSound program.now self.old }
         requires limits { IsLimited program.now }
         ensures { IfOk result (λ step. Leads program.now self.old.next step (perform program.now statement.now (state_of program.now self.old)) self.new) }
     {
-        if let Stmt::Call {
-            to,
-            callee,
-            arguments,
-        } = statement
-        {
-            let reach = self.enter(alloc, program, to, callee, arguments.as_slice())?;
-            return Ok(Step::Reaches(reach));
+        match statement {
+            Stmt::Call {
+                to,
+                callee,
+                arguments,
+            } => {
+                let reach = self.call_named(alloc, program, to, callee, arguments.as_slice())?;
+                Ok(Step::Reaches(reach))
+            }
+            Stmt::Indirect {
+                to,
+                signature,
+                callee,
+                arguments,
+            } => {
+                let operands = arguments.as_slice();
+                let reach = self.call_through(alloc, program, to, signature, callee, operands)?;
+                Ok(Step::Reaches(reach))
+            }
+            _ => self.act(alloc, program, statement),
         }
+    }
+
+    /// One statement that is no call.
+    fn act(
+        &mut self,
+        alloc: Heap,
+        program: &'t Indexed<'_>,
+        statement: &'t Stmt,
+    ) -> Result<Step, OutOfMemory>
+        requires sound { IsSound program.now self.old }
+        requires limits { IsLimited program.now }
+        ensures { IfOk result (λ step. Leads program.now self.old.next step (acted (state_of program.now self.old) (act (setting_of program.now) (scope_of (control_of program.now self.old.top)) statement.now (world_of self.old.world))) self.new) }
+    {
         let scope = program.scope(self.top.function, self.top.serial);
         match self.world.act(alloc, &scope, statement)? {
             Some(kind) => Ok(Step::Reaches(Reach::Traps(kind))),
@@ -264,13 +358,13 @@ impl<'t> Machine<'t> {
     }
 
     /// The value of an operand in the running frame.
-    fn value(&self, program: &Indexed<'_>, operand: &Operand) -> Value
+    fn value(&self, program: &'t Indexed<'_>, operand: &'t Operand) -> Value<'t>
         requires sound { IsSound program.now self.now }
         requires limits { IsLimited program.now }
-        ensures { result ≡ value_of program.now.globals (scope_of (control_of program.now self.now.top)) self.now.world.cells operand.now }
+        ensures { result ≡ value_of program.now.program.globals (scope_of (control_of program.now self.now.top)) self.now.world.registers.items operand.now }
     {
         let scope = program.scope(self.top.function, self.top.serial);
-        values::operand(&scope, &self.world.cells, operand)
+        values::operand(&scope, self.world.registers.as_slice(), operand)
     }
 
     /// What the run has printed.
@@ -284,7 +378,7 @@ impl<'t> Machine<'t> {
             next: _,
         } = self;
         let World {
-            cells: _,
+            registers: _,
             memory: _,
             input: _,
             taken: _,
@@ -325,8 +419,8 @@ fn target(on: i128, cases: &[Case], other: u64) -> u64
 }
 
 /// The status that main's last return gives.
-fn status(value: Option<Value>) -> i32
-    ensures { result ≡ status_of value }
+fn status(value: &Option<Value<'_>>) -> i32
+    ensures { result ≡ status_of value.now }
 {
     match value {
         Some(value) => values::number_of_value(Scalar::I32, value) as i32,
@@ -335,10 +429,10 @@ fn status(value: Option<Value>) -> i32
 }
 
 /// A result put into the register that takes it.
-fn give(cells: &mut Cells<'_>, to: &Option<Text>, value: Option<Value>)
-    ensures { cells.new ≡ given cells.old to.now value }
+fn give<'t>(registers: &mut Vec<Value<'t>>, takes: Option<usize>, value: Option<Value<'t>>)
+    ensures { registers.new.items ≡ given registers.old.items takes value.entry }
 {
-    if let (Some(to), Some(value)) = (to, value) {
-        cells.assign(to, value);
+    if let Some(value) = value {
+        registers::put(registers, takes, value);
     }
 }

@@ -21,13 +21,13 @@ use std::marker::Model;
 use struct_tables::Structs;
 
 /// An access in an object that lives.
-fn found_in(
-    slots: &Slots,
+fn found_in<'t>(
+    slots: &Slots<'t>,
     object: Object,
     offset: i64,
     scalar: Scalar,
     extent: Extent,
-) -> Result<FoundSlot, TrapKind>
+) -> Result<FoundSlot<'t>, TrapKind>
     ensures { result ≡ found_offset slots.now object offset scalar extent }
 {
     if offset < 0 {
@@ -41,7 +41,7 @@ fn found_in(
         Some(slot) => Ok(FoundSlot {
             object,
             offset: at,
-            value: slot.value,
+            value: slot.value.again(),
             constant: extent.constant,
         }),
         None => Err(TrapKind::BadSlot),
@@ -50,39 +50,40 @@ fn found_in(
 
 /// An access of a scalar through a pointer.
 #[tactic(auto, unfolding(gimple_core::specs::Memory::found_at))]
-fn found_by(
+fn found_by<'t>(
     living: &Extents,
-    slots: &Slots,
-    pointer: Value,
+    slots: &Slots<'t>,
+    pointer: &Value<'_>,
     scalar: Scalar,
-) -> Result<FoundSlot, TrapKind>
-    ensures { result ≡ found_at (record { living = living.now; slots = slots.now }) pointer scalar }
+) -> Result<FoundSlot<'t>, TrapKind>
+    ensures { result ≡ found_at (record { living = living.now; slots = slots.now }) pointer.now scalar }
 {
     match pointer {
-        Value::At { object, offset } => match living.found(object) {
-            Some(extent) => found_in(slots, object, offset, scalar, extent),
+        Value::At { object, offset } => match living.found(*object) {
+            Some(extent) => found_in(slots, *object, *offset, scalar, *extent),
             None => Err(TrapKind::Dangling),
         },
+        Value::Code(_) => Err(TrapKind::BadSlot),
         _ => Err(TrapKind::NullAccess),
     }
 }
 
 /// The value at a place, or zero or null.
-pub fn value_at(values: &[Value], k: usize, scalar: Scalar) -> Value
+pub fn value_at<'t>(values: &[Value<'t>], k: usize, scalar: Scalar) -> Value<'t>
     ensures { result ≡ unwrap_or (slice_get values.now k) (zero_of scalar) }
 {
     match values.get(k) {
-        Some(value) => *value,
+        Some(value) => value.again(),
         None => values::zero(scalar),
     }
 }
 
 /// Puts an object's slots behind the others, the first ones with these values.
-fn fill(
-    slots: &mut Slots,
+fn fill<'t>(
+    slots: &mut Slots<'t>,
     object: Object,
     layout: &[LayoutSlot],
-    values: &[Value],
+    values: &[Value<'t>],
 ) -> Result<(), OutOfMemory>
     ensures { OnOk result (slots.new ≡ slots.old ++ filled object layout.now values.now) }
 {
@@ -99,28 +100,29 @@ fn fill(
 }
 
 /// The values of a global's items.
-fn item_values(
+fn item_values<'t>(
     alloc: Heap,
     globals: &NamedGlobals<'_>,
-    items: &[Operand],
-) -> Result<Vec<Value>, OutOfMemory>
+    items: &'t [Operand],
+) -> Result<Vec<Value<'t>>, OutOfMemory>
     requires { length globals.now < 2 ^ 32 }
     ensures { IfOk result (λ vs. vs.items ≡ map (item_value globals.now) items.now) }
 {
-    items
-        .iter()
-        .map(|o| values::item(globals, o))
-        .collect(alloc)
+    let mut held = Vec::new(alloc);
+    for item in items {
+        held.push(values::item(globals, item))?;
+    }
+    Ok(held)
 }
 
 /// The objects that live, and what their slots hold.
 #[derive(Drop)]
-pub struct Memory {
+pub struct Memory<'t> {
     living: Extents,
-    slots: Slots,
+    slots: Slots<'t>,
 }
 
-impl Model for Memory {
+impl<'t> Model for Memory<'t> {
     ghost use Rattle.gimple_core.specs.Memory.{Memory};
 
     ghost Value = { Memory };
@@ -128,7 +130,7 @@ impl Model for Memory {
     ghost view = { λ m. record { living = m.living; slots = m.slots } };
 }
 
-impl Memory {
+impl<'t> Memory<'t> {
     ghost use Rattle.gimple_core.specs.Layout.{layout_of};
     ghost use Rattle.gimple_core.specs.Memory.{without_frame};
     ghost use Rattle.gimple_exec.specs.Machines.{function_of, IsLimited};
@@ -136,7 +138,7 @@ impl Memory {
     ghost use Rattle.gimple_core.specs.Run.{no_memory, with_object, with_locals, with_globals};
 
     /// No objects.
-    pub fn new(alloc: Heap) -> Memory
+    pub fn new(alloc: Heap) -> Memory<'t>
         ensures { result ≡ no_memory }
     {
         Memory {
@@ -146,15 +148,15 @@ impl Memory {
     }
 
     /// An access of a scalar through a pointer.
-    pub fn found(&self, pointer: Value, scalar: Scalar) -> Result<FoundSlot, TrapKind>
-        ensures { result ≡ found_at self.now pointer scalar }
+    pub fn found(&self, pointer: &Value<'_>, scalar: Scalar) -> Result<FoundSlot<'t>, TrapKind>
+        ensures { result ≡ found_at self.now pointer.now scalar }
     {
         found_by(&self.living, &self.slots, pointer, scalar)
     }
 
     /// Puts a value into a slot.
-    pub fn put(&mut self, object: Object, offset: u64, scalar: Scalar, value: Value)
-        ensures { self.new ≡ record self.old { slots = put_slot self.old.slots object offset scalar value } }
+    pub fn put(&mut self, object: Object, offset: u64, scalar: Scalar, value: Value<'t>)
+        ensures { self.new ≡ record self.old { slots = put_slot self.old.slots object offset scalar value.entry } }
     {
         self.slots.put(object, offset, scalar, value);
     }
@@ -173,7 +175,7 @@ impl Memory {
         object: Object,
         layout: &Layout,
         constant: bool,
-        values: &[Value],
+        values: &[Value<'t>],
     ) -> Result<(), OutOfMemory>
         ensures { OnOk result (self.new ≡ with_object self.old object layout.now constant values.now) }
     {
@@ -207,16 +209,16 @@ impl Memory {
         serial: u64,
     ) -> Result<(), OutOfMemory>
         requires limits { IsLimited program.now }
-        requires within { function < length program.now.functions }
-        ensures { OnOk result (self.new ≡ with_locals program.now.structs serial 0 (function_of program.now function).locals self.old) }
+        requires within { function < length program.now.program.functions }
+        ensures { OnOk result (self.new ≡ with_locals program.now.program.structs serial 0 (function_of program.now function).locals self.old) }
     {
         self.add_layouts(program.layouts(function), serial)
     }
 
     /// Adds the globals of a program.
-    pub fn add_program(&mut self, alloc: Heap, program: &Indexed<'_>) -> Result<(), OutOfMemory>
+    pub fn add_program(&mut self, alloc: Heap, program: &'t Indexed<'_>) -> Result<(), OutOfMemory>
         requires { IsLimited program.now }
-        ensures { OnOk result (self.new ≡ with_globals program.now.structs program.now.globals 0 program.now.globals self.old) }
+        ensures { OnOk result (self.new ≡ with_globals program.now.program.structs program.now.program.globals 0 program.now.program.globals self.old) }
     {
         let globals = program.source().globals.as_slice();
         self.add_globals(alloc, program.structs(), program.globals(), globals)
@@ -228,7 +230,7 @@ impl Memory {
         alloc: Heap,
         structs: &Structs<'_>,
         named: &NamedGlobals<'_>,
-        globals: &[gimple_core::Global],
+        globals: &'t [gimple_core::Global],
     ) -> Result<(), OutOfMemory>
         requires few { length globals.now < 2 ^ 32 }
         requires named { length named.now < 2 ^ 32 }

@@ -1,6 +1,7 @@
 //! Rows of what belongs to the objects that live, each behind those that came before it.
 
 ghost use Rattle.std.specs.Prelude.{◌≡◌, ◌++◌, ◌∷◌, [], find, filter, IsTrue, OnOk};
+ghost use Rattle.std.specs.Option.{option_copied};
 ghost use Rattle.gimple_core.specs.Memory.{is_elsewhere};
 ghost use Rattle.gimple_core.specs.Names.{update_first};
 ghost use Rattle.gimple_exec.specs.Order.{comes_before, IsOrdered, Follows, IsSplit, IsLatest};
@@ -12,7 +13,7 @@ use std::alloc::Global as Heap;
 use std::marker::Model;
 
 /// What belongs to an object, at an offset in it.
-pub trait Placed: Copy {
+pub trait Placed: Drop {
     ghost use Rattle.std.specs.Prelude.{ℕ, Bool, true};
     ghost use Rattle.gimple_ir.specs.declared.value.Object.{Object};
 
@@ -158,11 +159,11 @@ impl<T: Placed> Rows<T> {
     }
 
     /// The first item that is sought.
-    pub fn found(&self, sought: &T) -> Option<T>
-        ensures { result ≡ find (T.matches sought.now) self.now }
+    pub fn found(&self, sought: &T) -> Option<&T>
+        ensures { option_copied result ≡ find (T.matches sought.now) self.now }
     {
         match self.place(sought) {
-            Some(at) => Some(self.items[at]),
+            Some(at) => self.items.get(at),
             None => None,
         }
     }

@@ -1,6 +1,7 @@
 //! The slots of the objects that live.
 
 ghost use Rattle.std.specs.Prelude.{◌≡◌, ◌++◌, ◌∷◌, [], find, filter, OnOk};
+ghost use Rattle.std.specs.Option.{option_copied};
 ghost use Rattle.gimple_core.specs.Memory.{is_slot, is_elsewhere, put_slot};
 
 use crate::rows::{Placed, Rows};
@@ -9,7 +10,7 @@ use gimple_core::{MemorySlot, Object, OutOfMemory, Scalar, Value};
 use std::alloc::Global as Heap;
 use std::marker::Model;
 
-impl Placed for MemorySlot {
+impl<'a> Placed for MemorySlot<'a> {
     ghost use Rattle.gimple_exec.specs.PlacedLemmas.{slot_there};
 
     ghost object_of = { λ s. s.object };
@@ -26,7 +27,7 @@ impl Placed for MemorySlot {
         self.offset
     }
 
-    fn matches(&self, sought: &MemorySlot) -> bool {
+    fn matches(&self, sought: &MemorySlot<'a>) -> bool {
         is_same_object(self.object, sought.object)
             && self.offset == sought.offset
             && is_same_scalar(self.scalar, sought.scalar)
@@ -37,11 +38,11 @@ impl Placed for MemorySlot {
 
 /// The slots of the objects that live.
 #[derive(Drop)]
-pub struct Slots {
-    rows: Rows<MemorySlot>,
+pub struct Slots<'a> {
+    rows: Rows<MemorySlot<'a>>,
 }
 
-impl Model for Slots {
+impl<'a> Model for Slots<'a> {
     ghost use Rattle.std.specs.Prelude.{List};
     ghost use Rattle.gimple_core.specs.declared.machine.MemorySlot.{MemorySlot};
 
@@ -50,8 +51,8 @@ impl Model for Slots {
     ghost view = { λ s. s.rows };
 }
 
-impl Slots {
-    pub fn new(alloc: Heap) -> Slots
+impl<'a> Slots<'a> {
+    pub fn new(alloc: Heap) -> Slots<'a>
         ensures { result ≡ [] }
     {
         Slots {
@@ -60,15 +61,15 @@ impl Slots {
     }
 
     /// Adds a slot behind the others.
-    pub fn push(&mut self, slot: MemorySlot) -> Result<(), OutOfMemory>
-        ensures { OnOk result (self.new ≡ self.old ++ slot ∷ []) }
+    pub fn push(&mut self, slot: MemorySlot<'a>) -> Result<(), OutOfMemory>
+        ensures { OnOk result (self.new ≡ self.old ++ slot.entry ∷ []) }
     {
         self.rows.push(slot)
     }
 
     /// The first slot of an object with an offset and a scalar.
-    pub fn found(&self, object: Object, offset: u64, scalar: Scalar) -> Option<MemorySlot>
-        ensures { result ≡ find (is_slot object offset scalar) self.now }
+    pub fn found(&self, object: Object, offset: u64, scalar: Scalar) -> Option<&MemorySlot<'a>>
+        ensures { option_copied result ≡ find (is_slot object offset scalar) self.now }
     {
         self.rows.found(&MemorySlot {
             object,
@@ -79,8 +80,8 @@ impl Slots {
     }
 
     /// Puts a value into a slot.
-    pub fn put(&mut self, object: Object, offset: u64, scalar: Scalar, value: Value)
-        ensures { self.new ≡ put_slot self.old object offset scalar value }
+    pub fn put(&mut self, object: Object, offset: u64, scalar: Scalar, value: Value<'a>)
+        ensures { self.new ≡ put_slot self.old object offset scalar value.entry }
     {
         self.rows.replace(MemorySlot {
             object,

@@ -1,17 +1,19 @@
 //! Runs of small programs, with what they print and how they end worked out by hand.
 
-ghost use Rattle.std.specs.Prelude.{◌≡◌, ◌∷◌, [], pos, IfOk};
+ghost use Rattle.std.specs.Prelude.{◌≡◌, ◌∷◌, [], pos, Some, IfOk};
+ghost use Rattle.gimple_ir.specs.declared.operand.Base.{Base};
 ghost use Rattle.gimple_ir.specs.declared.statement.Stmt.{Stmt};
 ghost use Rattle.gimple_ir.specs.declared.operand.Operand.{Operand};
 ghost use Rattle.gimple_ir.specs.declared.scalar.Scalar.{Scalar};
 ghost use Rattle.gimple_ir.specs.declared.scalar.Op.{Op};
-ghost use Rattle.gimple_exec.specs.Examples.{IsExample, a, b, f, g, p, one_block, with_main, divides, leaks, pair, load, division, null_access, dangling, bounds, bad_slot};
+ghost use Rattle.gimple_exec.specs.Examples.{IsExample, a, b, c, f, p, one_block, with_main, divides, leaks, division, dangling, sum, indirect, call, bad_call, null_call};
+ghost use Rattle.gimple_ir.specs.declared.statement.Signature.{Signature};
 
 use super::run;
 use gimple_core::{
-    Base, Block, Blocks, Checked, Decl, Decls, End, Function, Functions, Global, Globals, Items,
-    Listed, Op, Operand, Operands, OutOfMemory, Outcome, Place, Program, Register, Registers,
-    Scalar, Shape, Stmt, Stmts, StructDefs, Text, TrapKind,
+    Base, Block, Blocks, Checked, Decl, Decls, End, Function, Functions, Globals, Listed, Mode, Op,
+    Operand, Operands, OutOfMemory, Outcome, Place, Program, Register, Registers, Scalar, Shape,
+    Signature, Stmt, Stmts, StructDefs, Text, TrapKind,
 };
 use std::alloc::Global as Heap;
 use std::test::Fail;
@@ -54,15 +56,16 @@ fn blocks(alloc: Heap, body: Stmts, end: End) -> Result<Blocks, OutOfMemory>
 
 fn with_main(
     alloc: Heap,
-    globals: Globals,
+    profile: u8,
     mut functions: Functions,
     body: Stmts,
 ) -> Result<Program, OutOfMemory>
-    ensures { IfOk result (λ p. p ≡ with_main globals functions body) }
+    ensures { IfOk result (λ p. p ≡ with_main profile functions body) }
 {
     let mut registers = Registers::new(alloc);
     registers.push(register(alloc, b'p', Scalar::Ptr)?)?;
     registers.push(register(alloc, b'a', Scalar::I32)?)?;
+    registers.push(register(alloc, b'c', Scalar::I8)?)?;
     functions.push(Function {
         name: Text::from_bytes(alloc, b"main")?,
         params: Registers::new(alloc),
@@ -72,8 +75,9 @@ fn with_main(
         blocks: blocks(alloc, body, End::Return(Some(Operand::Number(0))))?,
     })?;
     Ok(Program {
+        profile,
         structs: StructDefs::new(alloc),
-        globals,
+        globals: Globals::new(alloc),
         functions,
     })
 }
@@ -138,22 +142,8 @@ fn leaks(alloc: Heap) -> Result<Function, OutOfMemory>
     })
 }
 
-fn pair(alloc: Heap) -> Result<Global, OutOfMemory>
-    ensures { IfOk result (λ g. g ≡ pair) }
-{
-    Ok(Global {
-        decl: Decl {
-            name: name(alloc, b'g')?,
-            shape: Shape::Plain(Scalar::I32),
-            length: Some(2),
-        },
-        constant: false,
-        items: Items::new(alloc),
-    })
-}
-
 fn load(alloc: Heap) -> Result<Stmt, OutOfMemory>
-    ensures { IfOk result (λ x. x ≡ load) }
+    ensures { IfOk result (λ x. x ≡ Stmt.Load a Scalar.I32 (record { base = Base.Reg p; offset = pos 0 })) }
 {
     Ok(Stmt::Load {
         to: name(alloc, b'a')?,
@@ -175,37 +165,21 @@ fn call(alloc: Heap, divisor: i128) -> Result<Stmt, OutOfMemory>
     })
 }
 
-fn put(alloc: Heap) -> Result<Stmt, OutOfMemory>
-    ensures { IfOk result (λ x. x ≡ Stmt.Put (Operand.Reg a)) }
+fn put(alloc: Heap, letter: u8) -> Result<Stmt, OutOfMemory>
+    ensures { IfOk result (λ x. x ≡ Stmt.Put (Operand.Reg (letter ∷ []))) }
 {
     Ok(Stmt::Put {
-        from: Operand::Reg(name(alloc, b'a')?),
+        from: Operand::Reg(name(alloc, letter)?),
     })
-}
-
-fn two_calls(alloc: Heap) -> Result<Stmts, OutOfMemory>
-    ensures { IfOk result (λ xs. xs ≡ Stmt.Call (Some a) f (Operand.Number (pos 6) ∷ []) ∷ Stmt.Put (Operand.Reg a) ∷ Stmt.Call (Some a) f (Operand.Number (pos 0) ∷ []) ∷ Stmt.Put (Operand.Reg a) ∷ []) }
-{
-    let mut body = one(alloc, call(alloc, 6)?)?;
-    body.push(put(alloc)?)?;
-    body.push(call(alloc, 0)?)?;
-    body.push(put(alloc)?)?;
-    Ok(body)
 }
 
 fn division(alloc: Heap) -> Result<Program, OutOfMemory>
     ensures { IfOk result (λ p. p ≡ division) }
 {
-    let body = two_calls(alloc)?;
-    let functions = one(alloc, divides(alloc)?)?;
-    with_main(alloc, Globals::new(alloc), functions, body)
-}
-
-fn null_access(alloc: Heap) -> Result<Program, OutOfMemory>
-    ensures { IfOk result (λ p. p ≡ null_access) }
-{
-    let body = one(alloc, load(alloc)?)?;
-    with_main(alloc, Globals::new(alloc), Functions::new(alloc), body)
+    let mut body = one(alloc, call(alloc, 6)?)?;
+    body.push(put(alloc, b'a')?)?;
+    body.push(call(alloc, 0)?)?;
+    with_main(alloc, 1, one(alloc, divides(alloc)?)?, body)
 }
 
 fn dangling(alloc: Heap) -> Result<Program, OutOfMemory>
@@ -220,51 +194,91 @@ fn dangling(alloc: Heap) -> Result<Program, OutOfMemory>
         },
     )?;
     body.push(load(alloc)?)?;
-    with_main(alloc, Globals::new(alloc), one(alloc, leaks(alloc)?)?, body)
+    with_main(alloc, 1, one(alloc, leaks(alloc)?)?, body)
 }
 
-fn pointed(alloc: Heap, offset: i128) -> Result<Stmt, OutOfMemory>
-    ensures { IfOk result (λ x. x ≡ Stmt.Copy p (Operand.Address g offset)) }
+fn copy(alloc: Heap, letter: u8, from: Operand) -> Result<Stmt, OutOfMemory>
+    ensures { IfOk result (λ x. x ≡ Stmt.Copy (letter ∷ []) from) }
 {
     Ok(Stmt::Copy {
-        to: name(alloc, b'p')?,
-        from: Operand::Address {
-            variable: name(alloc, b'g')?,
-            offset,
-        },
+        to: name(alloc, letter)?,
+        from,
     })
 }
 
-fn bounds(alloc: Heap) -> Result<Program, OutOfMemory>
-    ensures { IfOk result (λ p. p ≡ bounds) }
+fn increment(alloc: Heap) -> Result<Stmt, OutOfMemory>
+    ensures { IfOk result (λ x. x ≡ Stmt.Arith c (Operand.Reg c) Op.Add (Operand.Number (pos 1))) }
 {
-    let mut body = one(alloc, pointed(alloc, 0)?)?;
-    body.push(Stmt::Arith {
-        to: name(alloc, b'p')?,
-        left: Operand::Reg(name(alloc, b'p')?),
+    Ok(Stmt::Arith {
+        to: name(alloc, b'c')?,
+        left: Operand::Reg(name(alloc, b'c')?),
         op: Op::Add,
-        right: Operand::Number(8),
-    })?;
-    body.push(load(alloc)?)?;
-    with_main(
-        alloc,
-        one(alloc, pair(alloc)?)?,
-        Functions::new(alloc),
-        body,
-    )
+        right: Operand::Number(1),
+    })
 }
 
-fn bad_slot(alloc: Heap) -> Result<Program, OutOfMemory>
-    ensures { IfOk result (λ p. p ≡ bad_slot) }
+fn sum(alloc: Heap) -> Result<Program, OutOfMemory>
+    ensures { IfOk result (λ p. p ≡ sum) }
 {
-    let mut body = one(alloc, pointed(alloc, 2)?)?;
-    body.push(load(alloc)?)?;
-    with_main(
-        alloc,
-        one(alloc, pair(alloc)?)?,
-        Functions::new(alloc),
-        body,
-    )
+    let mut body = one(alloc, copy(alloc, b'c', Operand::Number(127))?)?;
+    body.push(increment(alloc)?)?;
+    body.push(put(alloc, b'c')?)?;
+    with_main(alloc, 1, Functions::new(alloc), body)
+}
+
+/// `p = &f;`
+fn pointed(alloc: Heap) -> Result<Stmt, OutOfMemory>
+    ensures { IfOk result (λ x. x ≡ Stmt.Copy p (Operand.Address f (pos 0))) }
+{
+    let address = Operand::Address {
+        variable: name(alloc, b'f')?,
+        offset: 0,
+    };
+    copy(alloc, b'p', address)
+}
+
+fn call_through(
+    alloc: Heap,
+    to: Option<Text>,
+    returned: Option<Scalar>,
+    argument: i128,
+) -> Result<Stmt, OutOfMemory>
+    ensures { IfOk result (λ x. x ≡ Stmt.Indirect to (record { params = Scalar.I32 ∷ []; result = returned }) p (Operand.Number argument ∷ [])) }
+{
+    Ok(Stmt::Indirect {
+        to,
+        signature: Signature {
+            params: one(alloc, Scalar::I32)?,
+            result: returned,
+        },
+        callee: name(alloc, b'p')?,
+        arguments: one(alloc, Operand::Number(argument))?,
+    })
+}
+
+fn indirect(alloc: Heap) -> Result<Program, OutOfMemory>
+    ensures { IfOk result (λ p. p ≡ indirect) }
+{
+    let to = Some(name(alloc, b'a')?);
+    let mut body = one(alloc, pointed(alloc)?)?;
+    body.push(call_through(alloc, to, Some(Scalar::I32), 6)?)?;
+    body.push(put(alloc, b'a')?)?;
+    with_main(alloc, 2, one(alloc, divides(alloc)?)?, body)
+}
+
+fn bad_call(alloc: Heap) -> Result<Program, OutOfMemory>
+    ensures { IfOk result (λ p. p ≡ bad_call) }
+{
+    let mut body = one(alloc, pointed(alloc)?)?;
+    body.push(call_through(alloc, None, None, 1)?)?;
+    with_main(alloc, 2, one(alloc, divides(alloc)?)?, body)
+}
+
+fn null_call(alloc: Heap) -> Result<Program, OutOfMemory>
+    ensures { IfOk result (λ p. p ≡ null_call) }
+{
+    let body = one(alloc, call_through(alloc, None, None, 1)?)?;
+    with_main(alloc, 2, one(alloc, divides(alloc)?)?, body)
 }
 
 fn is(outcome: &Outcome, printed: &[u8], trap: Option<TrapKind>) -> bool {
@@ -279,45 +293,58 @@ fn is(outcome: &Outcome, printed: &[u8], trap: Option<TrapKind>) -> bool {
 fn comes_to(
     alloc: Heap,
     program: Program,
+    mode: Mode,
     turns: u64,
     printed: &[u8],
     trap: Option<TrapKind>,
 ) -> Result<bool, OutOfMemory>
     requires { IsExample program }
 {
-    let checked = Checked::seal(program);
+    let checked = Checked::seal_as(program, mode);
     let outcome = run(alloc, &checked, &[], turns)?;
     Ok(is(&outcome, printed, trap))
 }
 
 #[test]
 fn stops_at_the_transfer_too_many(rt: HostRuntime) -> Result<(), Fail> {
-    let rows: [(u64, &[u8], Option<TrapKind>); 4] = [
-        (1_000_000, b"1\n", Some(TrapKind::Divide)),
-        (1, b"", None),
+    let rows: [(u64, &[u8], Option<TrapKind>); 2] = [
         (2, b"1\n", None),
         (3, b"1\n", Some(TrapKind::Divide)),
     ];
     for (turns, printed, trap) in rows {
         let program = division(rt.alloc())?;
-        assert!(rt;
-            comes_to(rt.alloc(), program, turns, printed, trap)?,
-            "{turns}"
-        );
+        assert!(rt; comes_to(rt.alloc(), program, Mode::Trap, turns, printed, trap)?);
     }
     Ok(())
 }
 
 #[test]
-fn traps_at_each_wrong_access(rt: HostRuntime) -> Result<(), Fail> {
-    let alloc = rt.alloc();
-    let null = Some(TrapKind::NullAccess);
-    assert!(rt; comes_to(alloc, null_access(alloc)?, 9, b"", null)?);
+fn locals_die_with_their_frame(rt: HostRuntime) -> Result<(), Fail> {
+    let program = dangling(rt.alloc())?;
     let dead = Some(TrapKind::Dangling);
-    assert!(rt; comes_to(alloc, dangling(alloc)?, 9, b"", dead)?);
-    let outside = Some(TrapKind::Bounds);
-    assert!(rt; comes_to(alloc, bounds(alloc)?, 9, b"", outside)?);
-    let between = Some(TrapKind::BadSlot);
-    assert!(rt; comes_to(alloc, bad_slot(alloc)?, 9, b"", between)?);
+    assert!(rt; comes_to(rt.alloc(), program, Mode::Trap, 9, b"", dead)?);
+    Ok(())
+}
+
+#[test]
+fn sums_trap_or_wrap(rt: HostRuntime) -> Result<(), Fail> {
+    let trapping = sum(rt.alloc())?;
+    let outside = Some(TrapKind::Overflow);
+    assert!(rt; comes_to(rt.alloc(), trapping, Mode::Trap, 0, b"", outside)?);
+    let wrapping = sum(rt.alloc())?;
+    assert!(rt; comes_to(rt.alloc(), wrapping, Mode::Wrap, 0, b"-128\n", None)?);
+    Ok(())
+}
+
+#[test]
+fn calls_through_registers(rt: HostRuntime) -> Result<(), Fail> {
+    let right = indirect(rt.alloc())?;
+    assert!(rt; comes_to(rt.alloc(), right, Mode::Trap, 2, b"1\n", None)?);
+    let wrong = bad_call(rt.alloc())?;
+    let other = Some(TrapKind::BadCall);
+    assert!(rt; comes_to(rt.alloc(), wrong, Mode::Trap, 0, b"", other)?);
+    let none = null_call(rt.alloc())?;
+    let null = Some(TrapKind::NullAccess);
+    assert!(rt; comes_to(rt.alloc(), none, Mode::Trap, 0, b"", null)?);
     Ok(())
 }

@@ -5,20 +5,19 @@ ghost use Rattle.std.specs.Fmt.{signed_decimal};
 ghost use Rattle.gimple_core.specs.Operators.{IsWord};
 ghost use Rattle.gimple_core.specs.Run.{act, assign, assign_result, loaded, stored, got, put};
 ghost use Rattle.gimple_exec.specs.Acts.{world_of, Acts};
-ghost use Rattle.gimple_exec.specs.Frames.{locals_in, IsNarrow};
+ghost use Rattle.gimple_exec.specs.Frames.{scope_in, setting_in, IsNarrow};
 
-use crate::cells::Cells;
 use crate::memory::Memory;
 use crate::scope::Scope;
-use crate::values;
+use crate::{registers, values};
 use gimple_core::{FoundSlot, Listed, Operand, OutOfMemory, Scalar, Stmt, Text, TrapKind, Value};
 use std::alloc::Global as Heap;
 
 /// What a statement that is no call can change.
 #[derive(Drop)]
 pub struct World<'a> {
-    pub cells: Cells<'a>,
-    pub memory: Memory,
+    pub registers: Vec<Value<'a>>,
+    pub memory: Memory<'a>,
     pub input: Listed<i64>,
     pub taken: usize,
     pub output: Text,
@@ -37,24 +36,40 @@ pub fn number_text(alloc: Heap, number: i128) -> Result<String, OutOfMemory>
 }
 
 impl<'a> World<'a> {
-    fn assign_result(&mut self, to: &Text, found: Result<Value, TrapKind>) -> Option<TrapKind>
-        ensures { Acts self.old result (assign_result (world_of self.old) to.now found) self.new }
+    fn assign(&mut self, scope: &Scope<'_>, to: &Text, value: Value<'a>)
+        ensures { world_of self.new ≡ assign (scope_in scope.now) (world_of self.old) to.now value.entry }
+    {
+        registers::assign(scope, &mut self.registers, to, value);
+    }
+
+    fn assign_result(
+        &mut self,
+        scope: &Scope<'_>,
+        to: &Text,
+        found: Result<Value<'a>, TrapKind>,
+    ) -> Option<TrapKind>
+        ensures { Acts self.old result (assign_result (scope_in scope.now) (world_of self.old) to.now found.entry) self.new }
     {
         match found {
             Ok(value) => {
-                self.cells.assign(to, value);
+                self.assign(scope, to, value);
                 None
             }
             Err(kind) => Some(kind),
         }
     }
 
-    fn load(&mut self, to: &Text, found: Result<FoundSlot, TrapKind>) -> Option<TrapKind>
-        ensures { Acts self.old result (loaded (world_of self.old) to.now found) self.new }
+    fn load(
+        &mut self,
+        scope: &Scope<'_>,
+        to: &Text,
+        found: Result<FoundSlot<'a>, TrapKind>,
+    ) -> Option<TrapKind>
+        ensures { Acts self.old result (loaded (scope_in scope.now) (world_of self.old) to.now found.entry) self.new }
     {
         match found {
             Ok(at) => {
-                self.cells.assign(to, at.value);
+                self.assign(scope, to, at.value);
                 None
             }
             Err(kind) => Some(kind),
@@ -64,10 +79,10 @@ impl<'a> World<'a> {
     fn store(
         &mut self,
         scalar: Scalar,
-        value: Value,
-        found: Result<FoundSlot, TrapKind>,
+        value: Value<'a>,
+        found: Result<FoundSlot<'a>, TrapKind>,
     ) -> Option<TrapKind>
-        ensures { Acts self.old result (stored (world_of self.old) scalar value found) self.new }
+        ensures { Acts self.old result (stored (world_of self.old) scalar value.entry found.entry) self.new }
     {
         match found {
             Ok(at) if at.constant => Some(TrapKind::ReadOnly),
@@ -79,21 +94,22 @@ impl<'a> World<'a> {
         }
     }
 
-    fn get(&mut self, to: &Text)
-        ensures { world_of self.new ≡ got (world_of self.old) to.now (slice_get self.old.input self.old.taken) }
+    fn get(&mut self, scope: &Scope<'_>, to: &Text)
+        ensures { world_of self.new ≡ got (scope_in scope.now) (world_of self.old) to.now (slice_get self.old.input self.old.taken) }
     {
         let _count = self.input.len();
         match self.input.get(self.taken) {
             Some(number) => {
-                self.cells.assign(to, Value::Int(i128::from(*number)));
+                let value = Value::Int(i128::from(*number));
+                self.assign(scope, to, value);
                 self.taken += 1;
             }
-            None => self.cells.assign(to, Value::Int(0)),
+            None => self.assign(scope, to, Value::Int(0)),
         }
     }
 
-    fn put(&mut self, alloc: Heap, value: Value) -> Result<(), OutOfMemory>
-        ensures { OnOk result (world_of self.new ≡ put (world_of self.old) value) }
+    fn put(&mut self, alloc: Heap, value: &Value<'_>) -> Result<(), OutOfMemory>
+        ensures { OnOk result (world_of self.new ≡ put (world_of self.old) value.now) }
     {
         let text = number_text(alloc, values::any(value))?;
         self.output.push_all(text.as_bytes())?;
@@ -107,15 +123,15 @@ impl<'a> World<'a> {
         &mut self,
         alloc: Heap,
         scope: &Scope<'_>,
-        statement: &Stmt,
+        statement: &'a Stmt,
     ) -> Result<Option<TrapKind>, OutOfMemory>
         requires { IsNarrow scope.now }
-        ensures { IfOk result (λ trap. Acts self.old trap (act scope.now.globals.now (locals_in scope.now) statement.now (world_of self.old)) self.new) }
+        ensures { IfOk result (λ trap. Acts self.old trap (act (setting_in scope.now) (scope_in scope.now) statement.now (world_of self.old)) self.new) }
     {
         match statement {
             Stmt::Copy { to, from } => {
-                let value = values::operand(scope, &self.cells, from);
-                self.cells.assign(to, value);
+                let value = values::operand(scope, self.registers.as_slice(), from);
+                self.assign(scope, to, value);
                 Ok(None)
             }
             Stmt::Arith {
@@ -124,10 +140,12 @@ impl<'a> World<'a> {
                 op,
                 right,
             } => {
-                let left = values::operand(scope, &self.cells, left);
-                let right = values::operand(scope, &self.cells, right);
-                let scalar = self.cells.scalar(to);
-                Ok(self.assign_result(to, values::arith(scalar, left, *op, right)))
+                let registers = self.registers.as_slice();
+                let left = values::operand(scope, registers, left);
+                let right = values::operand(scope, registers, right);
+                let scalar = registers::scalar(scope, to);
+                let result = values::arith(scope.mode, scalar, &left, *op, &right);
+                Ok(self.assign_result(scope, to, result))
             }
             Stmt::Compare {
                 to,
@@ -135,42 +153,44 @@ impl<'a> World<'a> {
                 cmp,
                 right,
             } => {
-                let left = values::operand(scope, &self.cells, left);
-                let right = values::operand(scope, &self.cells, right);
-                self.cells
-                    .assign(to, values::truth(values::compare(left, *cmp, right)));
+                let registers = self.registers.as_slice();
+                let left = values::operand(scope, registers, left);
+                let right = values::operand(scope, registers, right);
+                let holds = values::compare(&left, *cmp, &right);
+                self.assign(scope, to, values::truth(holds));
                 Ok(None)
             }
             Stmt::Convert { to, scalar, from } => {
-                let value = values::operand(scope, &self.cells, from);
-                self.cells.assign(to, values::convert(*scalar, value));
+                let value = values::operand(scope, self.registers.as_slice(), from);
+                self.assign(scope, to, values::convert(*scalar, &value));
                 Ok(None)
             }
             Stmt::Load { to, scalar, place } => {
-                let pointer = values::pointer(scope, &self.cells, place);
-                let found = self.memory.found(pointer, *scalar);
-                Ok(self.load(to, found))
+                let pointer = values::pointer(scope, self.registers.as_slice(), place);
+                let found = self.memory.found(&pointer, *scalar);
+                Ok(self.load(scope, to, found))
             }
             Stmt::Store {
                 scalar,
                 place,
                 from,
             } => {
-                let pointer = values::pointer(scope, &self.cells, place);
-                let value = values::operand(scope, &self.cells, from);
-                let found = self.memory.found(pointer, *scalar);
+                let registers = self.registers.as_slice();
+                let pointer = values::pointer(scope, registers, place);
+                let value = values::operand(scope, registers, from);
+                let found = self.memory.found(&pointer, *scalar);
                 Ok(self.store(*scalar, value, found))
             }
             Stmt::Get { to } => {
-                self.get(to);
+                self.get(scope, to);
                 Ok(None)
             }
             Stmt::Put { from } => {
-                let value = values::operand(scope, &self.cells, from);
-                self.put(alloc, value)?;
+                let value = values::operand(scope, self.registers.as_slice(), from);
+                self.put(alloc, &value)?;
                 Ok(None)
             }
-            Stmt::Call { .. } | Stmt::Abort => Ok(Some(TrapKind::Abort)),
+            Stmt::Call { .. } | Stmt::Indirect { .. } | Stmt::Abort => Ok(Some(TrapKind::Abort)),
         }
     }
 }

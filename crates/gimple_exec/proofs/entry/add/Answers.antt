@@ -1,5 +1,5 @@
 use Rattle.std.proofs.Common.{◌∙◌, sym, ◌≤◌, length, arith}
-use Rattle.gimple_exec.proofs.CellLemmas.{values_more, values_all}
+use Rattle.gimple_exec.proofs.MadeLemmas.{values_more, values_all}
 use Rattle.gimple_exec.proofs.entry.add.Goals as goal
 
 pub loop-k-preserved : goal.loop-k-preserved

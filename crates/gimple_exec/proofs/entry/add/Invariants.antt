@@ -1,5 +1,5 @@
 use Rattle.std.proofs.Common.{◌≡◌, ◌++◌, drop}
-use Rattle.gimple_exec.specs.Frames.{values_made}
+use Rattle.gimple_core.specs.Run.{values_made}
 use Rattle.gimple_exec.proofs.entry.add.Given as goal
 
 abbrev pub invariant-loop-k : goal.invariant-loop-k
