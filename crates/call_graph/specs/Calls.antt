@@ -1,5 +1,5 @@
--- The call statements of a program, as edges between the numbers of its functions.
-use Rattle.std.specs.Prelude.{◌≡◌, ◌<◌, length, slice_index_or, slice_get, ℕ, ◌+◌, ◌==◌, Bool, true, false, List, [], ◌∷◌, ◌++◌, map, Option, Some, None}
+-- The calls by name of a program, as edges between the numbers of its functions.
+use Rattle.std.specs.Prelude.{ℕ, ◌+◌, ◌==◌, Bool, true, false, List, [], ◌∷◌, ◌++◌, map, Option, Some, None}
 use Rattle.std.specs.List.{position_or_len}
 use Rattle.gimple_ir.specs.declared.block.Block.{Block}
 use Rattle.gimple_ir.specs.declared.point.Edge.{Edge}
@@ -8,25 +8,25 @@ use Rattle.gimple_ir.specs.declared.program.Function.{Function}
 use Rattle.gimple_ir.specs.declared.program.Program.{Program}
 use Rattle.gimple_ir.specs.declared.statement.Stmt.{Stmt}
 use Rattle.std.specs.Str.{bytes_eq}
-use Rattle.gimple_core.specs.Run.{Calling, call_of, main_name}
-use Rattle.gimple_core.specs.Reach.{CallInBlocks}
+use Rattle.gimple_core.specs.Run.{Callee, Named, Through, Calling, call_of}
 
 -- the names of the functions in file order
 abbrev pub names_of : Program → List (List ℕ)
 names_of p = map (λ f. f.name) p.functions
 
--- no two of the names are the same
-abbrev pub AreDistinct : List (List ℕ) → Type 0
-AreDistinct names = (i j : ℕ) → i < length names → j < length names → slice_index_or names i [] ≡ slice_index_or names j [] → i ≡ j
-
 -- the number of the function of a name
 unfoldable pub number_in : List (List ℕ) → List ℕ → ℕ
 number_in names name = position_or_len (λ n. bytes_eq n name) names
 
+-- the edge of a call by name; a call through a register has none
+abbrev pub callee_edges : List (List ℕ) → Point → Callee → List Edge
+callee_edges names point (Named name) = record { caller = point.function; point = point; callee = number_in names name } ∷ []
+callee_edges names point (Through name signature) = []
+
 -- the edge of a call at a point, if there is one
 abbrev pub call_edges : List (List ℕ) → Point → Option Calling → List Edge
 call_edges names point None = []
-call_edges names point (Some c) = record { caller = point.function; point = point; callee = number_in names c.callee } ∷ []
+call_edges names point (Some c) = callee_edges names point c.callee
 
 -- the edges of the statements from index on, of a block of a function
 unfoldable pub body_edges : List (List ℕ) → ℕ → ℕ → ℕ → List Stmt → List Edge
@@ -42,7 +42,7 @@ unfoldable pub function_edges : List (List ℕ) → ℕ → List Function → Li
 function_edges names function [] = []
 function_edges names function (f ∷ fs) = block_edges names function 0 f.blocks ++ function_edges names (function + 1) fs
 
--- the call statements of a program in file order
+-- the calls by name of a program in file order
 unfoldable pub edges_of : Program → List Edge
 edges_of p = function_edges (names_of p) 0 p.functions
 
@@ -55,12 +55,6 @@ unfoldable pub callees_in : List Edge → ℕ → List ℕ
 callees_in [] caller = []
 callees_in (e ∷ es) caller = with_callee (caller == e.caller) e.callee (callees_in es caller)
 
--- what each function calls, by number
+-- what each function calls by name, by number
 abbrev pub callees_of : Program → ℕ → List ℕ
 callees_of p caller = callees_in (edges_of p) caller
-
--- the functions have distinct names, and there is one of each name that is called, `main` among them
-pub record CallsStand (p : Program) : Type 0 where
-  pub distinct : AreDistinct (names_of p)
-  pub main : number_in (names_of p) main_name < length p.functions
-  pub callees : (k : ℕ) (f : Function) (name : List ℕ) → slice_get p.functions k ≡ Some f → CallInBlocks name f.blocks → number_in (names_of p) name < length p.functions
