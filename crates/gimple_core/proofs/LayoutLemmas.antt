@@ -15,7 +15,7 @@ use Rattle.gimple_ir.specs.declared.declarations.Decl.{Decl}
 use Rattle.gimple_ir.specs.declared.declarations.StructDef.{StructDef}
 use Rattle.gimple_ir.specs.declared.value.LayoutSlot.{LayoutSlot}
 use Rattle.gimple_ir.specs.declared.value.Layout.{Layout}
-use Rattle.gimple_core.specs.declared.layout.KnownLayout.{KnownLayout}
+use Rattle.gimple_core.specs.Layout.{KnownLayout}
 use Rattle.std.specs.Str.{bytes_eq}
 use Rattle.gimple_core.specs.Layout.{empty_layout, round_up, moved, known_layout, shape_layout, repeated, count_of, array_layout, decl_layout, with_field, with_fields, struct_layouts, IsLayout}
 

@@ -7,7 +7,6 @@ use Rattle.gimple_ir.specs.declared.declarations.Decl.{Decl}
 use Rattle.gimple_ir.specs.declared.declarations.StructDef.{StructDef}
 use Rattle.gimple_ir.specs.declared.value.LayoutSlot.{LayoutSlot}
 use Rattle.gimple_ir.specs.declared.value.Layout.{Layout}
-use Rattle.gimple_core.specs.declared.layout.KnownLayout.{KnownLayout}
 use Rattle.std.specs.Str.{bytes_eq}
 use Rattle.gimple_core.specs.Operators.{bits_of}
 
@@ -19,6 +18,11 @@ round_up n align = (n + (align - 1)) / align * align
 
 abbrev pub moved : ℕ → List LayoutSlot → List LayoutSlot
 moved by slots = map (λ s. record { offset = by + s.offset; scalar = s.scalar }) slots
+
+-- a struct's name with its layout
+pub record KnownLayout : Type 0 where
+  pub name : List ℕ
+  pub layout : Layout
 
 abbrev pub known_layout : Option KnownLayout → Layout
 known_layout None = empty_layout

@@ -13,12 +13,21 @@ use gimple_ir::{
     Decl, Exact, Layout, LayoutSlot, OutOfMemory, Program, Shape, Slots, StructDef, Text,
 };
 use std::alloc::Global as Heap;
+use std::marker::Model;
 
 /// A struct's name with its layout.
 #[derive(Debug, Drop)]
 pub(crate) struct KnownLayout {
     pub(crate) name: Text,
     pub(crate) layout: Layout,
+}
+
+impl Model for KnownLayout {
+    ghost use Rattle.gimple_core.specs.Layout.{KnownLayout};
+
+    ghost Value = { KnownLayout };
+
+    ghost view = { λ k. record { name = k.name; layout = k.layout } };
 }
 
 /// The least multiple of `align` that is not below `n`.

@@ -4,10 +4,11 @@ use Rattle.std.specs.Str.{bytes_eq}
 use Rattle.std.specs.Option.{option_copied}
 use Rattle.std.specs.Map.{lookup}
 use Rattle.std.specs.Cmp.Lexicographic.{bytes_decides}
-use Rattle.gimple_core.specs.Env.{Names, named, has, declared, new_or_twice}
-use Rattle.gimple_ir.specs.declared.declarations.Global.{Global}
+use Rattle.gimple_core.specs.Env.{Names, Targets, named, has, is_target, declared, new_or_twice}
+use Rattle.gimple_ir.specs.declared.program.Function.{Function}
 use Rattle.gimple_core.proofs.EnvLemmas.{has_append}
 use Rattle.struct_tables.proofs.KeptLemmas.{is_key}
+use Rattle.gimple_types.specs.Seen.{targets_if}
 use Rattle.gimple_types.specs.Tables.{plain, noted, first_of_each}
 
 module _ {T : Type 0} where
@@ -82,5 +83,10 @@ module _ {T : Type 0} where
       ∙ or_assoc (has name there) (bytes_eq name e.0) (has name es) ∙ ap (λ a. has name there || a) (sym (head_has (bytes_eq name e.0) e.1 (named name es)))
 
 -- a table of the first items has the names that the list has
-pub has_first : (name : List ℕ) (table es : Names Global) → table ≡ first_of_each [] es → has name table ≡ has name es
+pub has_first : {T : Type 0} (name : List ℕ) (table es : Names T) → table ≡ first_of_each [] es → has name table ≡ has name es
 has_first name table es h = ap (has name) h ∙ has_first_of name [] es
+
+-- a table of the first functions has the names of those that may be addressed, where any may
+pub has_target : (name : List ℕ) (table functions : Names Function) (b : Bool) (ts : Targets) → table ≡ first_of_each [] functions → targets_if b functions ≡ ts → b ≡ true → has name table ≡ is_target ts name
+has_target name table functions true ts h e k = has_first name table functions h ∙ ap (λ t. is_target t name) e
+has_target name table functions false ts h e k = cc

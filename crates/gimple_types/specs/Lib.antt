@@ -2,3 +2,5 @@ pub mod Tables
 pub mod Verdicts
 pub mod Items
 pub mod Seen
+pub mod Addresses
+pub mod Counted

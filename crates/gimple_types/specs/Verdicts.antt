@@ -27,6 +27,12 @@ Judges judgement (Ok b) new = judgement ≡ Ok new
 Judges judgement (Err (refusal.Fault fault)) new = judgement ≡ Err fault
 Judges judgement (Err (refusal.Memory e)) new = Unit {0}
 
+-- the same where the new value is what the check hands over
+abbrev pub Gives : {A : Type 0} → Judgement A → Result A Refusal → Type 0
+Gives judgement (Ok a) = judgement ≡ Ok a
+Gives judgement (Err (refusal.Fault fault)) = judgement ≡ Err fault
+Gives judgement (Err (refusal.Memory e)) = Unit {0}
+
 abbrev pub sited : Site → Fail → Refusal
 sited site (fail.Code code) = refusal.Fault (record { code = code; site = site })
 sited site (fail.Memory e) = refusal.Memory e

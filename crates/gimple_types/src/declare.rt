@@ -1,14 +1,13 @@
 //! Checks of structs, globals and the names of functions.
 
 ghost use Rattle.std.specs.Prelude.{◌≡◌, [], ◌∷◌, ◌++◌, ◌+◌, ◌<◌, ◌≤◌, ◌^◌, length, OnOk};
-ghost use Rattle.std.specs.List.{list_any};
+ghost use Rattle.std.specs.List.{list_any, All};
+ghost use Rattle.gimple_ir.specs.declared.program.Function.{Function};
 ghost use Rattle.gimple_ir.specs.Size.{size_of_function};
-ghost use Rattle.gimple_core.specs.Accepted.{known_env};
 ghost use Rattle.gimple_core.specs.Declarations as spec;
 ghost use Rattle.gimple_core.specs.Env.{has, globals_by_name, structs_by_name};
-ghost use Rattle.gimple_ir.specs.Counts.{AreShort};
-ghost use Rattle.gimple_types.specs.Seen.{seen};
-ghost use Rattle.gimple_types.specs.Verdicts.{Becomes, Finds, Judges};
+ghost use Rattle.gimple_types.specs.Seen.{known_of, seen};
+ghost use Rattle.gimple_types.specs.Verdicts.{Becomes, Finds, Gives, Judges};
 
 use crate::env::{Env, Known, Own};
 use crate::names::{Labels, Table};
@@ -43,9 +42,9 @@ fn head<'a>(
     functions.declare(name, function)
 }
 
-/// The heads of the functions in order.
+/// Adds the functions in order, after the checks of their heads.
 #[tactic(auto, unfolding(gimple_core::specs::Declarations::heads))]
-pub(crate) fn heads<'a>(
+fn add_heads<'a>(
     globals: &Table<'a, Global>,
     functions: &mut Table<'a, Function>,
     items: &'a [Function],
@@ -70,6 +69,20 @@ pub(crate) fn heads<'a>(
         rest = after;
     }
     Ok(())
+}
+
+/// The functions of a program under their names, after the checks of their heads.
+pub(crate) fn heads<'a>(
+    alloc: Heap,
+    globals: &Table<'a, Global>,
+    items: &'a [Function],
+) -> Result<Table<'a, Function>, Refusal>
+    requires { length items.now < 2 ^ 32 }
+    ensures { Gives (spec.heads globals.now 0 [] items.now) result }
+{
+    let mut functions = Table::new(alloc);
+    add_heads(globals, &mut functions, items)?;
+    Ok(functions)
 }
 
 /// Whether formals and a result are those of `main`.
@@ -180,7 +193,7 @@ fn labels(own: &mut Labels, items: &[Block]) -> Result<(), Fail>
 /// What a function sees: its formals, locals and registers in order, then its labels.
 #[tactic(auto, unfolding(gimple_core::specs::Declarations::own))]
 fn own<'a>(alloc: Heap, known: &Known<'a>, function: &'a Function) -> Result<Own<'a>, Fail>
-    ensures { Finds (spec.own (known_env known.now.structs known.now.globals) known.now.functions function.now) result (seen known.now) }
+    ensures { Finds (spec.own (known_of known.now) known.now.functions function.now) result (seen known.now) }
 {
     let mut own = Own {
         locals: Table::new(alloc),
@@ -204,7 +217,7 @@ fn function<'a>(
     item: &'a Function,
 ) -> Result<(), Refusal>
     requires { size_of_function item.now < 2 ^ 32 }
-    ensures { Judges (spec.one_function (known_env known.now.structs known.now.globals) known.now.functions number item.now) result tt }
+    ensures { Judges (spec.one_function (known_of known.now) known.now.functions number item.now) result tt }
 {
     let own = match own(alloc, known, item) {
         Ok(own) => own,
@@ -228,8 +241,8 @@ pub(crate) fn functions<'a>(
     items: &'a [Function],
 ) -> Result<(), Refusal>
     requires few { length items.now < 2 ^ 32 }
-    requires short { AreShort items.now }
-    ensures { Judges (spec.functions (known_env known.now.structs known.now.globals) known.now.functions 0 items.now) result tt }
+    requires short { All (λ (f : Function). size_of_function f < 2 ^ 32) items.now }
+    ensures { Judges (spec.functions (known_of known.now) known.now.functions 0 items.now) result tt }
 {
     let mut number = 0;
     let mut rest = items;

@@ -4,12 +4,14 @@ use crate::names::{Labels, Table};
 use gimple_core::{Decl, Function, Global, Register, Scalar};
 use struct_tables::Structs;
 
-/// What names mean in every function: the program's structs, globals and functions.
+/// What names mean in every function: the program's structs, globals and functions. In profile 2 the functions are
+/// targets: they may be addressed, and called through registers.
 #[derive(Drop)]
 pub(crate) struct Known<'a> {
     pub(crate) structs: Structs<'a>,
     pub(crate) globals: Table<'a, Global>,
     pub(crate) functions: Table<'a, Function>,
+    pub(crate) has_targets: bool,
 }
 
 /// What names mean in one function: its locals, its formals and registers, its labels; and its result.

@@ -1,6 +1,7 @@
 //! Which programs have no type fault.
 #![tactic(auto)]
 
+mod counts;
 mod declare;
 mod env;
 mod globals;
@@ -11,6 +12,7 @@ mod scalars;
 mod statements;
 mod structs;
 
+pub use counts::is_countable;
 pub use gimple_core::{Site, TypeFault};
 pub use program::accept;
 pub use refusal::Refusal;

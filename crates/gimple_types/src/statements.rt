@@ -5,6 +5,7 @@ ghost use Rattle.gimple_core.specs.Env as names;
 ghost use Rattle.gimple_ir.specs.Size.{size_of_block};
 ghost use Rattle.gimple_core.specs.Statements as spec;
 ghost use Rattle.gimple_types.specs.Seen.{env_of};
+ghost use Rattle.gimple_types.specs.Addresses.{address_of};
 ghost use Rattle.gimple_types.specs.Verdicts.{Becomes, Judges};
 ghost use Rattle.std.specs.Option.{option_copied};
 
@@ -15,8 +16,8 @@ use crate::scalars::{
     is_add, is_number, is_order, is_pointer, is_printable, is_shift, same_scalar,
 };
 use gimple_core::{
-    Base, Block, Case, Cmp, Decl, End, Op, Operand, Place, Register, Scalar, Site, Stmt, Text,
-    TypeFault, fits,
+    Base, Block, Case, Cmp, Decl, End, Op, Operand, Place, Register, Scalar, Signature, Site, Stmt,
+    Text, TypeFault, fits,
 };
 use std::alloc::Global as Heap;
 
@@ -36,6 +37,27 @@ fn is_variable<'a>(env: &Env<'_, 'a>, name: &'a [u8]) -> bool
     env.own.locals.has(name) || env.known.globals.has(name)
 }
 
+/// Whether a name is that of a function that may be addressed.
+fn is_target<'a>(env: &Env<'_, 'a>, name: &'a [u8]) -> bool
+    ensures { result ≡ names.is_target (env_of env.now).targets name.now }
+{
+    if env.known.has_targets {
+        env.known.functions.has(name)
+    } else {
+        false
+    }
+}
+
+/// The address of a name with an offset.
+fn address<'a>(env: &Env<'_, 'a>, name: &'a [u8], offset: i128) -> Result<(), u8>
+    ensures { result ≡ address_of (env_of env.now) name.now offset }
+{
+    let variable = is_variable(env, name);
+    demand(variable || is_target(env, name), 1)?;
+    demand(fits(Scalar::I64, offset), 13)?;
+    demand(variable || offset == 0, 11)
+}
+
 /// An operand against a scalar; `wrong` is the code of an operand of another scalar or kind.
 #[tactic(auto, unfolding(gimple_core::specs::Statements::operand))]
 fn operand<'a>(env: &Env<'_, 'a>, wrong: u8, scalar: Scalar, x: &'a Operand) -> Result<(), u8>
@@ -53,8 +75,7 @@ fn operand<'a>(env: &Env<'_, 'a>, wrong: u8, scalar: Scalar, x: &'a Operand) -> 
         Operand::Null => demand(is_pointer(scalar), wrong),
         Operand::Address { variable, offset } => {
             demand(is_pointer(scalar), wrong)?;
-            demand(is_variable(env, variable.as_slice()), 1)?;
-            demand(fits(Scalar::I64, *offset), 13)
+            address(env, variable.as_slice(), *offset)
         }
     }
 }
@@ -204,10 +225,34 @@ fn is_read_only<'a>(env: &Env<'_, 'a>, base: &'a Base) -> bool
     }
 }
 
+/// Each argument against its scalar.
+#[tactic(auto, unfolding(gimple_core::specs::Statements::arguments))]
+fn arguments<'a>(env: &Env<'_, 'a>, scalars: &[Scalar], xs: &'a [Operand]) -> Result<(), u8>
+    ensures { result ≡ spec.arguments (env_of env.now) scalars.now xs.now }
+{
+    let mut left = scalars;
+    let mut right = xs;
+    while let [scalar, more @ ..] = left {
+        match right {
+            [] => return Ok(()),
+            [x, others @ ..] => {
+                operand(env, 6, *scalar, x)?;
+                left = more;
+                right = others;
+            }
+        }
+    }
+    Ok(())
+}
+
 /// Each argument against its formal.
 #[tactic(auto, unfolding(gimple_core::specs::Statements::arguments))]
-fn arguments<'a>(env: &Env<'_, 'a>, formals: &[Register], xs: &'a [Operand]) -> Result<(), u8>
-    ensures { result ≡ spec.arguments (env_of env.now) formals.now xs.now }
+fn formal_arguments<'a>(
+    env: &Env<'_, 'a>,
+    formals: &[Register],
+    xs: &'a [Operand],
+) -> Result<(), u8>
+    ensures { result ≡ spec.arguments (env_of env.now) (spec.scalars_of formals.now) xs.now }
 {
     let mut left = formals;
     let mut right = xs;
@@ -258,10 +303,30 @@ fn called<'a>(
         None => Err(1),
         Some(function) => {
             demand(xs.len() == function.params.len(), 5)?;
-            arguments(env, function.params.as_slice(), xs)?;
+            formal_arguments(env, function.params.as_slice(), xs)?;
             result_fits(scalar, function.result)
         }
     }
+}
+
+/// A call through a register, by the signature that it writes.
+#[tactic(auto, unfolding(gimple_core::specs::Statements::called_through))]
+fn called_through<'a>(
+    env: &Env<'_, 'a>,
+    to: &'a Option<Text>,
+    signature: &Signature,
+    callee: &'a [u8],
+    xs: &'a [Operand],
+) -> Result<(), u8>
+    ensures { result ≡ spec.called_through (env_of env.now) to.now signature.now callee.now xs.now }
+{
+    let scalar = target(env, to)?;
+    demand(env.known.has_targets, 1)?;
+    let own = scalar_of(env, callee)?;
+    demand(is_pointer(own), 4)?;
+    demand(xs.len() == signature.params.len(), 5)?;
+    arguments(env, signature.params.as_slice(), xs)?;
+    result_fits(scalar, signature.result)
 }
 
 #[tactic(auto, unfolding(gimple_core::specs::Statements::printed))]
@@ -334,6 +399,12 @@ fn statement<'a>(env: &Env<'_, 'a>, stmt: &'a Stmt) -> Result<(), u8>
             callee,
             arguments,
         } => called(env, to, callee.as_slice(), arguments.as_slice()),
+        Stmt::Indirect {
+            to,
+            signature,
+            callee,
+            arguments,
+        } => called_through(env, to, signature, callee.as_slice(), arguments.as_slice()),
         Stmt::Get { to } => {
             let own = scalar_of(env, to.as_slice())?;
             demand(same_scalar(own, Scalar::I64), 4)

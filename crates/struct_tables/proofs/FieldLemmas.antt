@@ -10,7 +10,7 @@ use Rattle.gimple_ir.specs.declared.declarations.Shape.TheVariants.{Plain, Named
 use Rattle.gimple_ir.specs.declared.declarations.StructDef.{StructDef}
 use Rattle.std.specs.Str.{bytes_eq}
 use Rattle.gimple_ir.specs.declared.value.Layout.{Layout}
-use Rattle.gimple_core.specs.declared.layout.KnownLayout.{KnownLayout}
+use Rattle.gimple_core.specs.Layout.{KnownLayout}
 use Rattle.gimple_core.specs.Layout.{empty_layout, moved, known_layout, shape_layout, decl_layout, with_field, with_fields, IsLayout}
 use Rattle.gimple_core.specs.Statements.{is_slot_at, has_slot}
 use Rattle.gimple_core.proofs.LayoutLemmas.{round_up-least, decl_is}

@@ -6,7 +6,7 @@ use Rattle.std.proofs.Math.Seq.{take-append_seam, take-length}
 use Rattle.std.proofs.lemmas.List.{take-append-le, map-append, length-append}
 use Rattle.std.proofs.lemmas.List.Folds.{find-append}
 use Rattle.gimple_ir.specs.declared.declarations.StructDef.{StructDef}
-use Rattle.gimple_core.specs.declared.layout.KnownLayout.{KnownLayout}
+use Rattle.gimple_core.specs.Layout.{KnownLayout}
 use Rattle.gimple_core.specs.Env.{named, has, structs_by_name}
 use Rattle.gimple_core.specs.Layout.{empty_layout, with_fields, struct_layouts}
 use Rattle.gimple_core.proofs.EnvLemmas.{same_test}

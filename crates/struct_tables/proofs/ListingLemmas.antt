@@ -7,7 +7,7 @@ use Rattle.std.proofs.lemmas.List.Elements.{All-get_or}
 use Rattle.std.proofs.lemmas.Option.{slice_get_within, get_or_from_slice_get}
 use Rattle.gimple_ir.specs.declared.declarations.Decl.{Decl}
 use Rattle.gimple_ir.specs.declared.value.LayoutSlot.{LayoutSlot}
-use Rattle.gimple_core.specs.declared.layout.KnownLayout.{KnownLayout}
+use Rattle.gimple_core.specs.Layout.{KnownLayout}
 use Rattle.gimple_core.specs.Layout.{decl_layout, IsLayout}
 use Rattle.gimple_core.proofs.LayoutLemmas.{decl_is}
 use Rattle.struct_tables.proofs.SolidLemmas.{Solid, lawful_all}

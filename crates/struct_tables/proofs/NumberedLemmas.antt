@@ -11,7 +11,7 @@ use Rattle.gimple_ir.specs.declared.declarations.Decl.{Decl}
 use Rattle.gimple_ir.specs.declared.declarations.Shape.{Shape}
 use Rattle.gimple_ir.specs.declared.declarations.Shape.TheVariants.{Plain}
 use Rattle.gimple_ir.specs.declared.declarations.StructDef.{StructDef}
-use Rattle.gimple_core.specs.declared.layout.KnownLayout.{KnownLayout}
+use Rattle.gimple_core.specs.Layout.{KnownLayout}
 use Rattle.gimple_core.specs.Layout.{empty_layout, moved, repeated, array_layout, shape_layout, decl_layout, with_field, with_fields, IsLayout}
 use Rattle.gimple_core.proofs.LayoutLemmas.{empty_is, decl_is, field_is, fields_least}
 use Rattle.struct_tables.specs.Sizes.{field_start, field_end, field_starts, slots_after, slots_before, first_layouts}

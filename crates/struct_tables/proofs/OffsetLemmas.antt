@@ -13,7 +13,7 @@ use Rattle.gimple_ir.specs.declared.declarations.Shape.TheVariants.{Plain}
 use Rattle.gimple_ir.specs.declared.declarations.StructDef.{StructDef}
 use Rattle.gimple_ir.specs.declared.value.Layout.{Layout}
 use Rattle.gimple_ir.specs.declared.value.LayoutSlot.{LayoutSlot}
-use Rattle.gimple_core.specs.declared.layout.KnownLayout.{KnownLayout}
+use Rattle.gimple_core.specs.Layout.{KnownLayout}
 use Rattle.gimple_core.specs.Layout.{empty_layout, moved, repeated, shape_layout, decl_layout, with_fields, IsLayout}
 use Rattle.gimple_core.specs.Memory.{same_scalar}
 use Rattle.gimple_core.specs.Statements.{is_slot_at, has_slot}

@@ -10,7 +10,7 @@ use Rattle.gimple_ir.specs.declared.declarations.StructDef.{StructDef}
 use Rattle.gimple_ir.specs.declared.scalar.Scalar.{Scalar}
 use Rattle.gimple_ir.specs.declared.scalar.Scalar.TheVariants.{I8, I16, I32, I64, U8, U16, U32, U64, Ptr}
 use Rattle.gimple_ir.specs.declared.value.Layout.{Layout}
-use Rattle.gimple_core.specs.declared.layout.KnownLayout.{KnownLayout}
+use Rattle.gimple_core.specs.Layout.{KnownLayout}
 use Rattle.gimple_core.specs.Layout.{empty_layout, round_up, moved, known_layout, shape_layout, count_of, decl_layout, with_field, with_fields, struct_layouts, IsLayout}
 use Rattle.std.specs.Str.{bytes_eq}
 use Rattle.gimple_core.proofs.LayoutLemmas.{entry, round_up-least, empty_is, plain_is, decl_is, field_is, fields_is}

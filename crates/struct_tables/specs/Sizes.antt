@@ -7,7 +7,7 @@ use Rattle.gimple_ir.specs.declared.value.Layout.{Layout}
 use Rattle.gimple_ir.specs.declared.value.LayoutSlot.{LayoutSlot}
 use Rattle.gimple_ir.specs.declared.declarations.Decl.{Decl}
 use Rattle.gimple_ir.specs.declared.declarations.StructDef.{StructDef}
-use Rattle.gimple_core.specs.declared.layout.KnownLayout.{KnownLayout}
+use Rattle.gimple_core.specs.Layout.{KnownLayout}
 use Rattle.gimple_core.specs.Layout.{empty_layout, moved, round_up, decl_layout, with_fields, struct_layouts, IsLayout}
 use Rattle.std.specs.Str.{bytes_eq}
 use Rattle.struct_tables.specs.declared.structs.Extent.{Extent}

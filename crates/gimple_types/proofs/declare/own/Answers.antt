@@ -1,8 +1,7 @@
 use Rattle.std.proofs.Common.{rules, ◌≡◌, [], not, Ok, refl, sym, ap, ◌∙◌, subst}
-use Rattle.gimple_core.specs.Accepted.{known_env}
 use Rattle.gimple_core.specs.Declarations as spec
 use Rattle.gimple_core.specs.Verdict.{demand}
-use Rattle.gimple_types.specs.Seen.{seen}
+use Rattle.gimple_types.specs.Seen.{known_of, seen}
 use Rattle.gimple_types.specs.Verdicts.{Becomes}
 use Rattle.gimple_core.specs.Env.{Env}
 use Rattle.gimple_core.proofs.ProgramTyped.{registers_are, locals_are}
@@ -12,7 +11,7 @@ use Rattle.gimple_types.proofs.declare.own.Goals as goal
 pub returns-in_err-labels : goal.returns-in_err-labels
 unfolding spec.own
 returns-in_err-labels c =
-    let first : Env = record (known_env c.args.known.now.structs c.args.known.now.globals) { locals = []; registers = []; labels = []; result = c.args.function.now.result } in
+    let first : Env = record (known_of c.args.known.now) { locals = []; registers = []; labels = []; result = c.args.function.now.result } in
     let e1 : spec.registers first c.args.known.now.functions c.args.function.now.params ≡ Ok (seen c.args.known.now c.registers.new.own) = search rules in
     let e2 : spec.locals (seen c.args.known.now c.registers.new.own) c.args.known.now.functions c.args.function.now.locals ≡ Ok (seen c.args.known.now c.locals.new.own) = search rules in
     let e3 : spec.registers (seen c.args.known.now c.locals.new.own) c.args.known.now.functions c.args.function.now.registers ≡ Ok (seen c.args.known.now c.registers-2.new.own) = search rules in
@@ -27,7 +26,7 @@ returns-in_err-labels c =
 pub returns : goal.returns
 unfolding spec.own
 returns c =
-    let first : Env = record (known_env c.args.known.now.structs c.args.known.now.globals) { locals = []; registers = []; labels = []; result = c.args.function.now.result } in
+    let first : Env = record (known_of c.args.known.now) { locals = []; registers = []; labels = []; result = c.args.function.now.result } in
     let e1 : spec.registers first c.args.known.now.functions c.args.function.now.params ≡ Ok (seen c.args.known.now c.registers.new.own) = search rules in
     let e2 : spec.locals (seen c.args.known.now c.registers.new.own) c.args.known.now.functions c.args.function.now.locals ≡ Ok (seen c.args.known.now c.locals.new.own) = search rules in
     let e3 : spec.registers (seen c.args.known.now c.locals.new.own) c.args.known.now.functions c.args.function.now.registers ≡ Ok (seen c.args.known.now c.registers-2.new.own) = search rules in

@@ -17,7 +17,7 @@ returns-in_err-items c =
     let e2 : spec.known_shape (structs_by_name c.args.structs.now) g.decl.shape ≡ Ok tt = search rules in
     let e3 : spec.sized c.args.structs.now g.decl ≡ Ok tt = search rules in
     let e4 : demand (nat_le (length g.items) (length slots)) 11 ≡ Ok tt = search rules in
-    let all = all_items_are c.args.all.now slots g.items in
+    let all = all_items_are c.args.all.now.targets c.args.all.now.globals slots g.items in
     rw e1 (rw e2 (rw e3 (rw e4 (rw all (search rules)))))
 
 pub returns : goal.returns
@@ -29,7 +29,7 @@ returns c =
     let e2 : spec.known_shape (structs_by_name c.args.structs.now) g.decl.shape ≡ Ok tt = search rules in
     let e3 : spec.sized c.args.structs.now g.decl ≡ Ok tt = search rules in
     let e4 : demand (nat_le (length g.items) (length slots)) 11 ≡ Ok tt = search rules in
-    let all = all_items_are c.args.all.now slots g.items in
-    let e5 : items_from c.args.all.now slots 0 g.items ≡ Ok tt = search rules in
-    let e6 : spec.items c.args.all.now slots g.items ≡ Ok tt = all ∙ e5 in
+    let all = all_items_are c.args.all.now.targets c.args.all.now.globals slots g.items in
+    let e5 : items_from c.args.all.now.targets c.args.all.now.globals slots 0 g.items ≡ Ok tt = search rules in
+    let e6 : spec.items c.args.all.now.targets c.args.all.now.globals slots g.items ≡ Ok tt = all ∙ e5 in
     rw e1 (rw e2 (rw e3 (rw e4 (rw e6 refl))))
