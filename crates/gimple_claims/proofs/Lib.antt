@@ -32,4 +32,5 @@ pub mod Addressed
 pub mod Shapes
 pub mod Pointers
 pub mod Slots
+pub mod Variables
 pub mod Callings

@@ -103,8 +103,8 @@ arguments_old p s xs l h = values_of_in (IsOldValue s.next) (law s.next) p.progr
 old_did : (p : Sealed) (s : State) → s.top.serial < s.next → HasOldPointers s → (d : Did) → Steps p s d → InDid HasOldPointers d
 old_did p s l h _ (acts x xs w e n r) =
     let world : WorldIn (IsOldValue s.next) (law s.next) w =
-        subst (ActedIn (IsOldValue s.next) (law s.next)) r
-        (act_in (IsOldValue s.next) (law s.next) (setting_of p) (scope_of s.top) x s.world (λ name t. address_old s.next p.program.globals (scope_of s.top) name l) (record { registers = h.top; memory = h.memory })) in
+    subst (ActedIn (IsOldValue s.next) (law s.next)) r
+    (act_in (IsOldValue s.next) (law s.next) (setting_of p) (scope_of s.top) x s.world (λ name t. address_old s.next p.program.globals (scope_of s.top) name l) (record { registers = h.top; memory = h.memory })) in
     record { top = world.registers; below = h.below; memory = world.memory }
 old_did p s l h _ (calls x xs c g b bs e n f y) =
     let more : s.next ≤ s.next + 1 = omega arith in
@@ -181,8 +181,7 @@ crossing_old p past s l h _ (traps o k) = tt
 old_each : (p : Sealed) (input : List ℤ) → AtEach p input EntryIsOld
 unfolding told_by
 old_each p input past s c =
-    let o = older p input past s c in
-    (
+    let o = older p input past s c in (
       tt,
       each_append EntryIsOld (AtPoint s.top s.world ∷ past) (access p.program.globals s.top.rest s) (crossing p.program.globals s.top.rest s (step p s))
           (inner_old (AtPoint s.top s.world ∷ past) (access p.program.globals s.top.rest s) (access_all IsInner s (λ scalar f. tt) (λ scalar f v. tt) p.program.globals s.top.rest))

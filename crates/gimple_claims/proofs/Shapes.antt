@@ -139,7 +139,7 @@ differ serial n l true e = let same : serial ≡ n = eqb-true serial n e in absu
 differ serial n l false e = refl
 
 -- each frame has a serial above those of the frames below it
-abbrev Descends : List Control → Type 0
+abbrev pub Descends : List Control → Type 0
 Descends [] = Unit {0}
 Descends (c ∷ cs) = AllByRecursion (λ (d : Control). d.serial < c.serial) cs × Descends cs
 
@@ -196,7 +196,7 @@ laid_did p input past s c h _ (jumps label k b e x f) = record { memory = h.memo
 laid_did p input past s c h _ (leaves v f fs e x y) =
     let order : Descends (s.top ∷ map (λ (r : Frame). r.control) (f ∷ fs)) = subst (λ rs. Descends (s.top ∷ map (λ (r : Frame). r.control) rs)) y h.order in
     let memory : IsLaidOut p.program.structs (global_variables 0 p.program.globals ++ frame_variables (s.top ∷ map (λ (r : Frame). r.control) (f ∷ fs))) s.world.memory =
-        subst (λ rs. IsLaidOut p.program.structs (global_variables 0 p.program.globals ++ frame_variables (s.top ∷ map (λ (r : Frame). r.control) rs)) s.world.memory) y h.memory in
+    subst (λ rs. IsLaidOut p.program.structs (global_variables 0 p.program.globals ++ frame_variables (s.top ∷ map (λ (r : Frame). r.control) rs)) s.world.memory) y h.memory in
     record {
       memory = subst (λ zs. IsLaidOut p.program.structs zs (without_frame s.top.serial s.world.memory))
           (frame_goes p.program.globals s.top (map (λ (r : Frame). r.control) (f ∷ fs)) order.0)
@@ -231,3 +231,8 @@ pub memory_is_laid_out : MemoryIsLaidOut
 memory_is_laid_out p input past s c =
     let h : Laid p past s = holds_with p input (Laid p) (begins_laid p input) (λ past s c h. laid_did p input past s c h (step p s) (step_is p s)) past s c in
     h.memory
+
+pub frames_descend : (p : Sealed) (input : List ℤ) (past : List Event) (s : State) → Comes p input past s → Descends (controls s)
+frames_descend p input past s c =
+    let h : Laid p past s = holds_with p input (Laid p) (begins_laid p input) (λ past s c h. laid_did p input past s c h (step p s) (step_is p s)) past s c in
+    h.order

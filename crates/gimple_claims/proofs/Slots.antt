@@ -59,6 +59,7 @@ found_in_filter test keep (x ∷ xs) y e = by (keep x) refl e (found_in_filter t
     here : (a : Bool) → test x ≡ a → keep x ≡ true → (if a then Some x else find test (filter keep xs)) ≡ Some y → (find test (filter keep xs) ≡ Some y → (test y ≡ true) × (keep y ≡ true)) → (test y ≡ true) × (keep y ≡ true)
     here true t k f more = let same : x ≡ y = cc in (ap test (sym same) ∙ t, ap keep (sym same) ∙ k)
     here false t k f more = more f
+
     by : (b : Bool) → keep x ≡ b → find test (cond b (x ∷ filter keep xs) (filter keep xs)) ≡ Some y → (find test (filter keep xs) ≡ Some y → (test y ≡ true) × (keep y ≡ true)) → (test y ≡ true) × (keep y ≡ true)
     by true k f more = here (test x) refl k f more
     by false k f more = more f

@@ -10,3 +10,4 @@ pub mod Addressed
 pub mod Shapes
 pub mod Pointers
 pub mod Slots
+pub mod Variables

@@ -7,6 +7,7 @@ ghost use Rattle.gimple_claims.specs.Pointers.{PointersAreOld, EntriesGetOldPoin
 ghost use Rattle.gimple_claims.specs.Shapes.{MemoryIsLaidOut};
 ghost use Rattle.gimple_claims.specs.Slots.{SlotsKeepValues};
 ghost use Rattle.gimple_claims.specs.Typed.{ValuesAreTyped};
+ghost use Rattle.gimple_claims.specs.Variables.{VariablesLive, VariablesHaveSlots, AccessesFindSlots};
 ghost use Rattle.gimple_claims.specs.Addressed.{FunctionValuesAreAddressed};
 
 /// Each frame and each event so far has a serial below the next one.
@@ -99,4 +100,12 @@ pub fn pointers_are_old()
 /// Between two states of a run in which an object lives, each of its slots to which nothing is stored keeps its value.
 pub fn slots_keep_values()
     ensures { SlotsKeepValues }
+{}
+
+/// Each global and each local of a frame of the state lives, has the slots of its layout, and an access to one of them does
+/// not trap: it finds what the slot holds.
+pub fn variables_live()
+    ensures lives { VariablesLive }
+    ensures slots { VariablesHaveSlots }
+    ensures accesses { AccessesFindSlots }
 {}

@@ -5,7 +5,7 @@ use Rattle.std.proofs.Math.Seq.{take-suc}
 use Rattle.std.proofs.lemmas.List.{take-append-drop}
 use Rattle.std.specs.List.{All, find, list_any}
 use Rattle.std.specs.Option.{option_or}
-use Rattle.std.proofs.lemmas.List.Elements.{All-nil, All-cons, All-head, All-tail, All-append, All-weaker, All-map}
+use Rattle.std.proofs.lemmas.List.Elements.{All-nil, All-cons, All-head, All-tail, All-append, All-push, All-weaker, All-map}
 use Rattle.std.proofs.lemmas.List.Folds.{find-append, list_any-append}
 use Rattle.gimple_ir.specs.declared.scalar.Scalar.{Scalar}
 use Rattle.gimple_ir.specs.declared.scalar.Scalar.TheVariants.{I8, I16, I32, I64, U8, U16, U32, U64, Ptr}
@@ -17,7 +17,7 @@ use Rattle.gimple_ir.specs.declared.value.LayoutSlot.{LayoutSlot}
 use Rattle.gimple_ir.specs.declared.value.Layout.{Layout}
 use Rattle.gimple_core.specs.Layout.{KnownLayout}
 use Rattle.std.specs.Str.{bytes_eq}
-use Rattle.gimple_core.specs.Layout.{empty_layout, round_up, moved, known_layout, shape_layout, repeated, count_of, array_layout, decl_layout, with_field, with_fields, struct_layouts, IsLayout}
+use Rattle.gimple_core.specs.Layout.{empty_layout, round_up, moved, known_layout, shape_layout, repeated, count_of, array_layout, decl_layout, with_field, with_fields, struct_layouts, layout_of, IsLayout}
 
 -- ---- rounding
 
@@ -182,3 +182,16 @@ plain_same known more d scalar e =
 pub named_same : (known more : List KnownLayout) (d : Decl) (name : List ℕ) → d.shape ≡ Named name → find (λ k. bytes_eq k.name name) known ≡ find (λ k. bytes_eq k.name name) more → decl_layout known d ≡ decl_layout more d
 named_same known more d name e f =
     ap (array_layout (count_of d.length)) (ap (shape_layout known) e ∙ ap known_layout f ∙ sym (ap (shape_layout more) e))
+
+-- ---- every layout
+
+layouts_are : (ss : List StructDef) (known : List KnownLayout) → All (λ (k : KnownLayout). IsLayout k.layout) known → All (λ (k : KnownLayout). IsLayout k.layout) (struct_layouts known ss)
+layouts_are [] known h = h
+layouts_are (s ∷ ss) known h =
+    layouts_are ss (known ++ record { name = s.name; layout = with_fields known empty_layout s.fields } ∷ [])
+    (All-push (λ (k : KnownLayout). IsLayout k.layout) known _ h (fields_is known s.fields empty_layout h empty_is))
+
+-- slots begin within the size, and the alignment is from 1 to 8
+pub layout_is : (structs : List StructDef) (d : Decl) → IsLayout (layout_of structs d)
+unfolding layout_of
+layout_is structs d = decl_is (struct_layouts [] structs) d (layouts_are structs [] (All-nil (λ (k : KnownLayout). IsLayout k.layout)))
