@@ -4,6 +4,7 @@ use Rattle.std.specs.Option.{IsSomeAnd, IfSome}
 use Rattle.shelf.specs.Outside.{Meaning, Contents, at_name, Rose, RoseBy, OnSource, LacksSource, Appends, IsToldCut}
 use Rattle.words.specs.declared.options.SourceName.{SourceName}
 use Rattle.words.specs.Words.{bytes_of}
+use Rattle.gimple_ir.specs.declared.scalar.Mode.{Mode}
 use Rattle.gimple_ir.specs.declared.program.Program.{Program}
 use Rattle.gimple_core.specs.Sealed.{Sealed}
 use Rattle.gimple_text.specs.declared.fault.TextFault.{TextFault}
@@ -37,20 +38,21 @@ of_text bytes (EarlyEnd spot) h = tt
 of_text bytes (TextMemory want) h = h
 
 -- what was judged of the text is the verdict on the source
-pub judged : (words : List (List ℕ)) (source : SourceName) (old new : Meaning) (text : List ℕ) (r : Result Sealed Fault) → LoadsText (bytes_of words (input_of source)) old new text → Judges text r → MatchResult r (IsLoaded words source old new) (Refused words source old new)
-judged words source old new text (Ok checked) l j = record {
-  good = fetched (λ bytes. IsVerdict bytes (Good checked.program)) text j old.sources (bytes_of words (input_of source)) l.source;
-  spellable = spelled_spellable text checked.program j.spelled;
-  countable = countable text checked.program j.spelled (omega (arith, j.within));
+pub judged : (words : List (List ℕ)) (source : SourceName) (mode : Mode) (old new : Meaning) (text : List ℕ) (r : Result Sealed Fault) → LoadsText (bytes_of words (input_of source)) old new text → Judges text mode r → MatchResult r (IsLoaded words source mode old new) (Refused words source old new)
+judged words source mode old new text (Ok checked) l j = record {
+  good = fetched (λ bytes. IsVerdict bytes (Good checked.program)) text j.0 old.sources (bytes_of words (input_of source)) l.source;
+  spellable = spelled_spellable text checked.program j.0.spelled;
+  countable = countable text checked.program j.0.spelled (omega (arith, j.0.within));
+  mode = j.1;
   read = l.read;
 }
-judged words source old new text (Err (Text f)) l j = (of_text text f j.fault, fetched (λ bytes. IsVerdict bytes (BadText f)) text j old.sources (bytes_of words (input_of source)) l.source)
-judged words source old new text (Err (Types f)) l j = fetched (λ bytes. IsVerdict bytes (BadTypes f)) text j old.sources (bytes_of words (input_of source)) l.source
-judged words source old new text (Err Memory) l j = tt
-judged words source old new text (Err (Usage f)) l j = j
-judged words source old new text (Err Read) l j = absurd j
-judged words source old new text (Err Long) l j = absurd j
-judged words source old new text (Err (Write name)) l j = j
+judged words source mode old new text (Err (Text f)) l j = (of_text text f j.fault, fetched (λ bytes. IsVerdict bytes (BadText f)) text j old.sources (bytes_of words (input_of source)) l.source)
+judged words source mode old new text (Err (Types f)) l j = fetched (λ bytes. IsVerdict bytes (BadTypes f)) text j old.sources (bytes_of words (input_of source)) l.source
+judged words source mode old new text (Err Memory) l j = tt
+judged words source mode old new text (Err (Usage f)) l j = j
+judged words source mode old new text (Err Read) l j = absurd j
+judged words source mode old new text (Err Long) l j = absurd j
+judged words source mode old new text (Err (Write name)) l j = j
 
 -- a source that is told and good has no other verdict
 module _ (v : Verdict) where

@@ -1,10 +1,10 @@
 -- What the passes make of a program may stand for it.
-use Rattle.std.proofs.Common.{◌≡◌, ℕ, Bool, List, ◌≤◌, cond, ◌&&◌, refl, sym, subst, arith, le_trans}
+use Rattle.std.proofs.Common.{◌≡◌, ℕ, Bool, List, ◌≤◌, cond, ◌&&◌, refl, sym, ap, subst, arith, le_trans}
 use Rattle.gimple_ir.specs.declared.options.Passes.{Passes}
 use Rattle.gimple_ir.specs.declared.options.Params.{Params}
 use Rattle.gimple_ir.specs.declared.program.Function.{Function}
-use Rattle.gimple_ir.specs.declared.program.Program.{Program}
 use Rattle.gimple_core.specs.Accepted.{IsAccepted}
+use Rattle.gimple_core.specs.Sealed.{Sealed}
 use Rattle.gimple_ir.specs.Size.{size_of_program}
 use Rattle.gimple_core.specs.Reach.{IsWithoutUnreached}
 use Rattle.gimple_core.proofs.Dropping.{reached_runs}
@@ -29,12 +29,13 @@ within_bound size passes params =
     let splits = cond passes.sra params.ipa_sra_unit_growth 0 in
     le_trans (grows size large clones) (grows (grown size large clones) large splits)
 
-pub made : (p : Program) (q : Sealed) (shows : Bool) (cgraph summary : List ℕ) (passes : Passes) (params : Params) → IsAccepted p → IsWithoutUnreached p q.program → size_of_program q.program ≤ size_of_program p → IsGraphText shows q.program cgraph
-    → summary ≡ summary_text (measure_of p) (measure_of q.program) no_counts → IsMade p shows passes params (bare_product q cgraph summary)
-made p q shows cgraph summary passes params accepted reached shrinks dump counted = record {
+pub made : (p q : Sealed) (shows : Bool) (cgraph summary : List ℕ) (passes : Passes) (params : Params) → IsAccepted p.program → IsWithoutUnreached p.program q.program → q.mode ≡ p.mode → size_of_program q.program ≤ size_of_program p.program → IsGraphText shows q.program cgraph
+    → summary ≡ summary_text (measure_of p.program) (measure_of q.program) no_counts → IsMade p shows passes params (bare_product q cgraph summary)
+made p q shows cgraph summary passes params accepted reached same shrinks dump counted = record {
   pipeline = record {
-    entering = q.program;
+    entering = q;
     reached = reached;
+    mode = same;
     program = refl;
     cgraph = dump;
     icf = refl;
@@ -44,15 +45,16 @@ made p q shows cgraph summary passes params accepted reached shrinks dump counte
     summary = counted;
   };
   sound = record {
-    accepted = reached_accepted p q.program accepted reached;
-    runs = reached_runs p q.program reached;
+    accepted = reached_accepted p.program q.program accepted reached;
+    mode = same;
+    runs = λ input within n. reached_runs p q reached same input n;
     entering_size = shrinks;
     size = within_bound (size_of_program q.program) passes params;
   };
 }
 
 -- The output's text is its own, where the source has one.
-pub made_spelled : (p : Program) (shows : Bool) (passes : Passes) (params : Params) (product : Product) → IsSpellable p → IsMade p shows passes params product → Spells (canon product.program.program) product.program.program
+pub made_spelled : (p : Sealed) (shows : Bool) (passes : Passes) (params : Params) (product : Product) → IsSpellable p.program → IsMade p shows passes params product → Spells (canon product.program.program) product.program.program
 made_spelled p shows passes params product h m =
-    let e = subst IsSpellable (sym m.pipeline.reached.program) (filtered_spellable p (λ (f : Function). m.pipeline.reached.keeps f.name) h) in
-    canon_spells product.program.program (subst IsSpellable (sym m.pipeline.program) e)
+    let e = subst IsSpellable (sym m.pipeline.reached.program) (filtered_spellable p.program (λ (f : Function). m.pipeline.reached.keeps f.name) h) in
+    canon_spells product.program.program (subst IsSpellable (sym (ap (λ (s : Sealed). s.program) m.pipeline.program)) e)

@@ -6,6 +6,7 @@ use Rattle.shelf.specs.Outside.{Meaning, Contents, at_name, OnSource}
 use Rattle.words.specs.declared.options.Name.{Name}
 use Rattle.words.specs.declared.options.SourceName.{SourceName}
 use Rattle.words.specs.Words.{bytes_of}
+use Rattle.gimple_ir.specs.declared.scalar.Mode.{Mode}
 use Rattle.gimple_core.specs.Sealed.{Sealed}
 use Rattle.ipa_driver.specs.declared.outputs.Output.{Output}
 use Rattle.ipa_driver.specs.Verdict.{Good, IsVerdict}
@@ -13,8 +14,8 @@ use Rattle.ipa_driver.specs.Stores.{pairs, total, StoresOnly, AreStored, IsCut, 
 use Rattle.ipa_driver.specs.Answers.{input_of, MadeOf, IsDone, IsNotWritten, CostsAtMost, WithinRoom}
 use Rattle.ipa_driver.specs.Work.{Loads, IsLoaded}
 
-module _ (words : List (List ℕ)) (input : SourceName) (Makes : MadeOf) (old mid new : Meaning) (checked : Sealed) (outputs : List Output)
-    (loads : Loads old mid) (loaded : IsLoaded words input old mid checked)
+module _ (words : List (List ℕ)) (input : SourceName) (mode : Mode) (Makes : MadeOf) (old mid new : Meaning) (checked : Sealed) (outputs : List Output)
+    (loads : Loads old mid) (loaded : IsLoaded words input mode old mid checked)
     (made : Makes checked.program outputs) (only : StoresOnly mid new) where
   pub done : AreStored words outputs mid new → IsDone words input Makes old new
   done s = record {

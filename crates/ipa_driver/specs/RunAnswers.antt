@@ -9,7 +9,7 @@ use Rattle.words.specs.declared.run_options.RunOptions.{RunOptions}
 use Rattle.words.specs.Words.{bytes_of}
 use Rattle.words.specs.RunWords.{run_words_of, inputs_of}
 use Rattle.gimple_ir.specs.declared.value.TrapKind.{TrapKind}
-use Rattle.gimple_ir.specs.declared.value.TrapKind.TheVariants.{Overflow, Divide, Shift, NullAccess, Dangling, Bounds, BadSlot, ReadOnly, Abort}
+use Rattle.gimple_ir.specs.declared.value.TrapKind.TheVariants.{Overflow, Divide, Shift, NullAccess, Dangling, Bounds, BadSlot, ReadOnly, Abort, BadCall}
 use Rattle.gimple_ir.specs.declared.value.Outcome.{Outcome}
 use Rattle.gimple_ir.specs.declared.value.Outcome.TheVariants.{Going, Ended, Trapped}
 use Rattle.gimple_ir.specs.declared.program.Program.{Program}
@@ -28,6 +28,7 @@ kind_text Bounds = codes "Bounds"
 kind_text BadSlot = codes "BadSlot"
 kind_text ReadOnly = codes "ReadOnly"
 kind_text Abort = codes "Abort"
+kind_text BadCall = codes "BadCall"
 
 -- what a program printed, and a last line that says what it came to
 abbrev pub outcome_text : Outcome → List ℕ
@@ -35,9 +36,9 @@ outcome_text (Going output) = output ++ codes "going\n"
 outcome_text (Ended output status) = output ++ codes "ended " ++ signed_decimal status ++ codes "\n"
 outcome_text (Trapped output kind) = output ++ codes "trapped " ++ kind_text kind ++ codes "\n"
 
--- The one output: on standard output, what the run of the program on these input numbers and transfers comes to.
+-- The one output: on standard output, what the run of the program in this mode, on these input numbers and transfers, comes to.
 abbrev pub IsRunOutput : List (List ℕ) → RunOptions → Program → List Output → Type 0
-IsRunOutput words o p outputs = outputs ≡ record { name = Standard; text = outcome_text (Run p (inputs_of words o.first) o.turns) } ∷ []
+IsRunOutput words o p outputs = outputs ≡ record { name = Standard; text = outcome_text (Run (record { program = p; mode = o.mode }) (inputs_of words o.first) o.turns) } ∷ []
 
 -- the input's name, where the words are lawful
 abbrev pub run_input_from : List (List ℕ) → Result RunOptions UsageFault → List ℕ

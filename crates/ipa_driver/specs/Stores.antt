@@ -41,10 +41,11 @@ pairs words (x ∷ xs) = (bytes_of words x.name, x.text) ∷ pairs words xs
 abbrev pub total : List (List ℕ × List ℕ) → ℕ
 total pairs = sum_by cost_of pairs
 
--- All texts of a run on this program: the output's text is its program's own, and the program may stand for the source.
+-- All texts of a run on this program in the mode of the words: the output's text is its program's own, and the program may stand for the
+-- source.
 pub record AreOutputs (o : Options) (p : Program) (outputs : List Output) : Type 0 where
   pub product : Product
-  pub made : IsMade p (is_some o.cgraph) o.passes o.params product
+  pub made : IsMade (record { program = p; mode = o.mode }) (is_some o.cgraph) o.passes o.params product
   pub spelled : Spells (canon product.program.program) product.program.program
   pub texts : outputs ≡ output_list o product
 

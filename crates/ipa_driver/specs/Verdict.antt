@@ -2,8 +2,7 @@
 use Rattle.std.specs.Prelude.{◌≡◌, ℕ, ◌<◌, ◌≤◌, List, length, Some}
 use Rattle.gimple_ir.specs.declared.program.Program.{Program}
 use Rattle.gimple_ir.specs.declared.fault.TypeFault.{TypeFault}
-use Rattle.gimple_core.specs.Accepted.{first_fault}
-use Rattle.gimple_core.specs.Accepted.{IsAccepted}
+use Rattle.gimple_core.specs.Accepted.{first_fault, IsAccepted}
 use Rattle.gimple_text.specs.declared.fault.TextFault.{TextFault}
 use Rattle.gimple_text.specs.Parse.{Spells, TextFaultOf}
 

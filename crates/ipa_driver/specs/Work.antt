@@ -2,7 +2,7 @@
 use Rattle.std.specs.Prelude.{◌≡◌, ◌⊎◌, ℕ, ◌+◌, ◌<◌, ◌≤◌, List, length, Some, IfSome, Result, Ok, Err, OnErr, ⊤}
 use Rattle.shelf.specs.Outside.{Meaning, Rose, RoseBy, OnSource, LacksSource, Tells}
 use Rattle.words.specs.declared.options.SourceName.{SourceName}
-use Rattle.gimple_ir.specs.declared.program.Program.{Program}
+use Rattle.gimple_ir.specs.declared.scalar.Mode.{Mode}
 use Rattle.gimple_core.specs.Sealed.{Sealed}
 use Rattle.gimple_ir.specs.Spellable.{IsSpellable}
 use Rattle.gimple_ir.specs.Counts.{IsCountable}
@@ -37,19 +37,20 @@ FetchRefused name old new Long =
 FetchRefused name old new Memory = ⊤
 FetchRefused name old new fault = ⊥
 
--- what is answered of a text
-abbrev pub Judges : List ℕ → Result Sealed Fault → Type 0
-Judges text (Ok checked) = IsVerdict text (Good checked.program)
-Judges text (Err (Text f)) = IsVerdict text (BadText f)
-Judges text (Err (Types f)) = IsVerdict text (BadTypes f)
-Judges text (Err Memory) = ⊤
-Judges text (Err f) = ⊥
+-- what is answered of a text whose program is to run in this mode
+abbrev pub Judges : List ℕ → Mode → Result Sealed Fault → Type 0
+Judges text mode (Ok checked) = IsVerdict text (Good checked.program) × (checked.mode ≡ mode)
+Judges text mode (Err (Text f)) = IsVerdict text (BadText f)
+Judges text mode (Err (Types f)) = IsVerdict text (BadTypes f)
+Judges text mode (Err Memory) = ⊤
+Judges text mode (Err f) = ⊥
 
--- a program that was fetched and accepted
-pub record IsLoaded (words : List (List ℕ)) (source : SourceName) (old new : Meaning) (checked : Sealed) : Type 0 where
+-- a program that was fetched and accepted, in this mode
+pub record IsLoaded (words : List (List ℕ)) (source : SourceName) (wanted : Mode) (old new : Meaning) (checked : Sealed) : Type 0 where
   pub good : HasVerdict old.sources words source (Good checked.program)
   pub spellable : IsSpellable checked.program
   pub countable : IsCountable checked.program
+  pub mode : checked.mode ≡ wanted
   pub read : new.read_faults ≡ old.read_faults
 
 -- what the work leaves as it is: no message is told yet

@@ -17,6 +17,7 @@ mod top;
 mod verdict;
 
 pub use finish::{Fault, Finish};
+pub use gimple_core::Mode;
 pub use gimple_text::{Spot, TextFault};
 pub use passes::{Product, pipeline};
 pub use run_top::run_program;

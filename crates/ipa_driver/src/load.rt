@@ -6,7 +6,7 @@ ghost use Rattle.ipa_driver.specs.Answers.{Refused, input_of};
 ghost use Rattle.ipa_driver.specs.Work.{Loads, LoadsText, FetchRefused, Judges, IsLoaded};
 
 use crate::finish::Fault;
-use gimple_core::{Checked, Text};
+use gimple_core::{Checked, Mode, Text};
 use gimple_text::{TextFault, parse};
 use gimple_types::{Refusal, accept};
 use shelf::{Fetched, Shelf};
@@ -40,14 +40,14 @@ fn fetch_text<S: Shelf>(alloc: Global, name: &[u8], shelf: &mut S) -> Result<Tex
     }
 }
 
-/// The accepted program of a text.
-fn judge(alloc: Global, text: &[u8]) -> Result<Checked, Fault>
+/// The accepted program of a text, in this mode.
+fn judge(alloc: Global, text: &[u8], mode: Mode) -> Result<Checked, Fault>
     requires { length text.now ≤ 16777216 }
-    ensures { Judges text.now result }
+    ensures { Judges text.now mode result }
 {
     match parse(alloc, text) {
         Ok(program) => match accept(alloc, program) {
-            Ok(checked) => Ok(checked),
+            Ok(checked) => Ok(Checked::seal_as(checked.into_program(), mode)),
             Err(Refusal::Fault(fault)) => Err(Fault::Types(fault)),
             Err(Refusal::Memory(_)) => Err(Fault::Memory),
         },
@@ -56,18 +56,19 @@ fn judge(alloc: Global, text: &[u8]) -> Result<Checked, Fault>
     }
 }
 
-/// The accepted program of the source that the words name.
+/// The accepted program of the source that the words name, in this mode.
 pub fn load<S: Shelf>(
     alloc: Global,
     words: &[Text],
     source: &SourceName,
+    mode: Mode,
     shelf: &mut S,
 ) -> Result<Checked, Fault>
     ensures loads { Loads (S.meaning shelf.old) (S.meaning shelf.new) }
     ensures answer { MatchResult result
-        (IsLoaded words.now source.now (S.meaning shelf.old) (S.meaning shelf.new))
+        (IsLoaded words.now source.now mode (S.meaning shelf.old) (S.meaning shelf.new))
         (Refused words.now source.now (S.meaning shelf.old) (S.meaning shelf.new)) }
 {
     let text = fetch_text(alloc, input_bytes(words, source), shelf)?;
-    judge(alloc, text.as_slice())
+    judge(alloc, text.as_slice(), mode)
 }

@@ -37,6 +37,7 @@ pub fn outputs_of(
 ) -> Result<Vec<Output>, OutOfMemory>
     requires spellable { IsSpellable program.program }
     requires countable { IsCountable program.program }
+    requires mode { program.mode ≡ options.now.mode }
     ensures { IfOk result (λ outputs. AreOutputs options.now program.program outputs.items) }
 {
     let shows_graph = options.cgraph.is_some();

@@ -34,7 +34,7 @@ pub fn pipeline(
     params: &Params,
 ) -> Result<Product, OutOfMemory>
     requires { IsCountable program.program }
-    ensures { IfOk result (λ product. IsMade program.program shows_graph passes.now params.now product) }
+    ensures { IfOk result (λ product. IsMade program shows_graph passes.now params.now product) }
 {
     let source = measure_of(program.program());
     let program = drop_unreached(alloc, program)?;

@@ -17,7 +17,8 @@ pub fn run_outputs(
     options: &RunOptions,
     program: &Checked,
 ) -> Result<Vec<Output>, OutOfMemory>
-    requires { IsCountable program.now.program }
+    requires countable { IsCountable program.now.program }
+    requires mode { program.now.mode ≡ options.now.mode }
     ensures { IfOk result (λ outputs. IsRunOutput words.now options.now program.now.program outputs.items) }
 {
     let numbers = input_numbers(alloc, words, options.first)?;
@@ -72,5 +73,6 @@ fn kind_text(kind: TrapKind) -> &'static str
         TrapKind::BadSlot => "BadSlot",
         TrapKind::ReadOnly => "ReadOnly",
         TrapKind::Abort => "Abort",
+        TrapKind::BadCall => "BadCall",
     }
 }

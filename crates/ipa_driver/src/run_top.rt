@@ -19,8 +19,8 @@ use shelf::Shelf;
 use std::alloc::Global;
 use words::{RunOptions, SourceName, name_bytes, read_run_words};
 
-/// Reads the words, fetches the program, runs it on the input numbers of the words and stores on `-` what it printed
-/// and what it came to; where anything fails, tells one message. It never waits, and always returns.
+/// Reads the words, fetches the program, runs it in the mode and on the input numbers of the words, and stores on `-`
+/// what it printed and what it came to; where anything fails, tells one message. It never waits, and always returns.
 pub fn run_program<S: Shelf>(alloc: Global, words: &[Text], shelf: &mut S) -> Finish
     ensures status { result.status ≡ status_of result.fault }
     ensures answer { MatchResult (run_words_of words.now)
@@ -59,7 +59,8 @@ fn work<S: Shelf>(
         (λ fault. Answer words.now (File options.now.source) (IsRunOutput words.now options.now) (S.meaning shelf.old) (S.meaning shelf.new) (Some fault)) }
     ensures sure { WorkSure words.now (File options.now.source) (IsRunOutput words.now options.now) (S.meaning shelf.old) (S.meaning shelf.new) result }
 {
-    let program = load(alloc, words, &SourceName::File(options.source), shelf)?;
+    let source = SourceName::File(options.source);
+    let program = load(alloc, words, &source, options.mode, shelf)?;
     let outputs = match run_outputs(alloc, words, options, &program) {
         Ok(outputs) => outputs,
         Err(_) => return Err(Fault::Memory),

@@ -64,7 +64,7 @@ fn work<S: Shelf>(
         (λ fault. Answer words.now options.now.source (AreOutputs options.now) (S.meaning shelf.old) (S.meaning shelf.new) (Some fault)) }
     ensures sure { WorkSure words.now options.now.source (AreOutputs options.now) (S.meaning shelf.old) (S.meaning shelf.new) result }
 {
-    let program = load(alloc, words, &options.source, shelf)?;
+    let program = load(alloc, words, &options.source, options.mode, shelf)?;
     let outputs = match outputs_of(alloc, program, options) {
         Ok(outputs) => outputs,
         Err(_) => return Err(Fault::Memory),

@@ -11,6 +11,6 @@ returns-clause-answer g c =
     let text = c.in_ok-text.text in
     let words = c.args.words.now in
     let source = c.args.source.now in
-    judged words source old new text c.judge.result
+    judged words source c.args.mode old new text c.judge.result
     (subst (λ n. LoadsText n old new text) c.input_bytes.ensures c.in_ok-text.ensures.text)
-    (subst (λ t. Judges t c.judge.result) c.as_slice.ensures c.judge.ensures)
+    (subst (λ t. Judges t c.args.mode c.judge.result) c.as_slice.ensures c.judge.ensures)

@@ -16,7 +16,7 @@ returns-clause-answer g c =
     let loaded = c.in_ok-program.ensures in
     let stored = c.in-Err-store_all.ensures in
     let made = subst (λ os. IsRunOutput words o checked.program os) (sym c.deref.ensures.value) c.in-Ok.ensures in
-    not_written words (File o.source) (IsRunOutput words o) old mid new checked c.deref.result.now loaded.loads loaded.answer made stored.only c.in-Err-store_all.name stored.answer
+    not_written words (File o.source) o.mode (IsRunOutput words o) old mid new checked c.deref.result.now loaded.loads loaded.answer made stored.only c.in-Err-store_all.name stored.answer
 
 pub returns-clause-sure : goal.returns-clause-sure
 returns-clause-sure g c =
@@ -29,7 +29,7 @@ returns-clause-sure g c =
     let loaded = c.in_ok-program.ensures in
     let stored = c.in-Err-store_all.ensures in
     let made = subst (λ os. IsRunOutput words o checked.program os) (sym c.deref.ensures.value) c.in-Ok.ensures in
-    sure_failed words (File o.source) (IsRunOutput words o) old mid new checked c.deref.result.now loaded.loads loaded.answer made stored.only c.in-Err-store_all.name stored.sure
+    sure_failed words (File o.source) o.mode (IsRunOutput words o) old mid new checked c.deref.result.now loaded.loads loaded.answer made stored.only c.in-Err-store_all.name stored.sure
 
 pub returns-in-Ok-store_all-clause-answer : goal.returns-in-Ok-store_all-clause-answer
 returns-in-Ok-store_all-clause-answer g c =
@@ -42,7 +42,7 @@ returns-in-Ok-store_all-clause-answer g c =
     let loaded = c.in_ok-program.ensures in
     let stored = c.in-Ok-store_all.ensures in
     let made = subst (λ os. IsRunOutput words o checked.program os) (sym c.deref.ensures.value) c.in-Ok.ensures in
-    done words (File o.source) (IsRunOutput words o) old mid new checked c.deref.result.now loaded.loads loaded.answer made stored.only stored.answer
+    done words (File o.source) o.mode (IsRunOutput words o) old mid new checked c.deref.result.now loaded.loads loaded.answer made stored.only stored.answer
 
 pub returns-in-Ok-store_all-clause-sure : goal.returns-in-Ok-store_all-clause-sure
 returns-in-Ok-store_all-clause-sure g c =
@@ -55,4 +55,4 @@ returns-in-Ok-store_all-clause-sure g c =
     let loaded = c.in_ok-program.ensures in
     let stored = c.in-Ok-store_all.ensures in
     let made = subst (λ os. IsRunOutput words o checked.program os) (sym c.deref.ensures.value) c.in-Ok.ensures in
-    sure_done words (File o.source) (IsRunOutput words o) old mid new checked c.deref.result.now loaded.loads loaded.answer made stored.only stored.sure
+    sure_done words (File o.source) o.mode (IsRunOutput words o) old mid new checked c.deref.result.now loaded.loads loaded.answer made stored.only stored.sure

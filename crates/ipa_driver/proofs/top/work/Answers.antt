@@ -14,7 +14,7 @@ returns-clause-answer g c =
     let loaded = c.in_ok-program.ensures in
     let stored = c.in-Err-store_all.ensures in
     let made = subst (λ os. AreOutputs o checked.program os) (sym c.deref.ensures.value) c.in-Ok.ensures in
-    not_written c.args.words.now o.source (AreOutputs o) old mid new checked c.deref.result.now loaded.loads loaded.answer made stored.only c.in-Err-store_all.name stored.answer
+    not_written c.args.words.now o.source o.mode (AreOutputs o) old mid new checked c.deref.result.now loaded.loads loaded.answer made stored.only c.in-Err-store_all.name stored.answer
 
 pub returns-clause-sure : goal.returns-clause-sure
 returns-clause-sure g c =
@@ -26,7 +26,7 @@ returns-clause-sure g c =
     let loaded = c.in_ok-program.ensures in
     let stored = c.in-Err-store_all.ensures in
     let made = subst (λ os. AreOutputs o checked.program os) (sym c.deref.ensures.value) c.in-Ok.ensures in
-    sure_failed c.args.words.now o.source (AreOutputs o) old mid new checked c.deref.result.now loaded.loads loaded.answer made stored.only c.in-Err-store_all.name stored.sure
+    sure_failed c.args.words.now o.source o.mode (AreOutputs o) old mid new checked c.deref.result.now loaded.loads loaded.answer made stored.only c.in-Err-store_all.name stored.sure
 
 pub returns-in-Ok-store_all-clause-answer : goal.returns-in-Ok-store_all-clause-answer
 returns-in-Ok-store_all-clause-answer g c =
@@ -38,7 +38,7 @@ returns-in-Ok-store_all-clause-answer g c =
     let loaded = c.in_ok-program.ensures in
     let stored = c.in-Ok-store_all.ensures in
     let made = subst (λ os. AreOutputs o checked.program os) (sym c.deref.ensures.value) c.in-Ok.ensures in
-    done c.args.words.now o.source (AreOutputs o) old mid new checked c.deref.result.now loaded.loads loaded.answer made stored.only stored.answer
+    done c.args.words.now o.source o.mode (AreOutputs o) old mid new checked c.deref.result.now loaded.loads loaded.answer made stored.only stored.answer
 
 pub returns-in-Ok-store_all-clause-sure : goal.returns-in-Ok-store_all-clause-sure
 returns-in-Ok-store_all-clause-sure g c =
@@ -50,4 +50,4 @@ returns-in-Ok-store_all-clause-sure g c =
     let loaded = c.in_ok-program.ensures in
     let stored = c.in-Ok-store_all.ensures in
     let made = subst (λ os. AreOutputs o checked.program os) (sym c.deref.ensures.value) c.in-Ok.ensures in
-    sure_done c.args.words.now o.source (AreOutputs o) old mid new checked c.deref.result.now loaded.loads loaded.answer made stored.only stored.sure
+    sure_done c.args.words.now o.source o.mode (AreOutputs o) old mid new checked c.deref.result.now loaded.loads loaded.answer made stored.only stored.sure
