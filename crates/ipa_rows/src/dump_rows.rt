@@ -1,7 +1,7 @@
 //! Dumps and summaries beside the output.
 
 use crate::run::words_of;
-use crate::sources::{MINIMAL, UNREACHED};
+use crate::sources::{INDIRECT_CALL, MINIMAL, UNREACHED, WRAPPING_DIVISION, WRAPPING_SUMS};
 use ipa_driver::{MemoryShelf, optimise_alone};
 use std::alloc::{AllocError, Global};
 use std::test::Fail as TestFail;
@@ -22,6 +22,29 @@ i32 main () {
     a = a + b;
     b = f (7);
     a = a + b;
+    putint (a);
+    return 0;
+}
+";
+
+/// A function that calls itself with a greater number, up to a bound.
+const RECURSIVE: &str = "gimple 1;
+i32 f (i32 n) {
+  i32 x;
+  i32 r;
+  <bb 2>:
+    if (n > 100) goto <bb 3>; else goto <bb 4>;
+  <bb 3>:
+    return n;
+  <bb 4>:
+    x = n + 1;
+    r = f (x);
+    return r;
+}
+i32 main () {
+  i32 a;
+  <bb 2>:
+    a = f (0);
     putint (a);
     return 0;
 }
@@ -63,6 +86,35 @@ call main:2.2 -> f
 call main:2.4 -> f
 ";
     assert!(rt; stores(rt.alloc(), line, CALLS, &[("c", graph), ("b.g", CALLS)])?);
+    Ok(())
+}
+
+#[test]
+fn indirect_call(rt: HostRuntime) -> Result<(), TestFail> {
+    let line = "-O2 -fdump-ipa-cgraph=c a.g -o b.g";
+    let graph = ";; pass cgraph
+component 0: f
+component 1: main
+call main:2.1 -> f
+indirect main:2.4
+";
+    let texts = [("c", graph), ("b.g", INDIRECT_CALL)];
+    assert!(rt; stores(rt.alloc(), line, INDIRECT_CALL, &texts)?);
+    Ok(())
+}
+
+#[test]
+fn modes(rt: HostRuntime) -> Result<(), TestFail> {
+    for line in [
+        "-O2 a.g -o b.g -fdump-ipa-cp=d",
+        "-O2 -fwrapv a.g -o b.g -fdump-ipa-cp=d",
+        "-fwrapv a.g -o b.g -fdump-ipa-cp=d -O2 -ftrapv",
+    ] {
+        for source in [WRAPPING_SUMS, WRAPPING_DIVISION, RECURSIVE] {
+            let texts = [("d", ";; pass cp\n"), ("b.g", source)];
+            assert!(rt; stores(rt.alloc(), line, source, &texts)?, "{line}");
+        }
+    }
     Ok(())
 }
 

@@ -444,3 +444,45 @@ fn large_structs(rt: HostRuntime) -> Result<(), TestFail> {
     assert!(rt; is_accepted(alloc, &source)?);
     Ok(())
 }
+
+#[test]
+fn functions_as_values(rt: HostRuntime) -> Result<(), TestFail> {
+    let alloc = rt.alloc();
+    let before = "void f (i32 n) { <bb 2>: return; } i32 main () { i32 a; i64 b; ptr p; <bb 2>: ";
+    let cases = [
+        ("gimple 1; ", "p = &f;", "T01 unknown name"),
+        ("gimple 1; ", "*<void (i32)> p (1);", "T01 unknown name"),
+        ("gimple 2; ", "p = &g@8;", "T01 unknown name"),
+        ("gimple 2; ", "a = &f@8;", "T04 operand type"),
+        (
+            "gimple 2; ",
+            "p = &f@9223372036854775808;",
+            "T13 literal range",
+        ),
+        ("gimple 2; ", "p = &f@8;", "T11 no slot"),
+        ("gimple 2; ", "c = *<void (i32)> b ();", "T01 unknown name"),
+        ("gimple 2; ", "a = *<void (i32)> f ();", "T01 unknown name"),
+        ("gimple 2; ", "a = *<void (i32)> b ();", "T04 operand type"),
+        (
+            "gimple 2; ",
+            "a = *<void (i32)> p ();",
+            "T05 argument count",
+        ),
+        (
+            "gimple 2; ",
+            "a = *<void (i32)> p (b);",
+            "T06 argument type",
+        ),
+        ("gimple 2; ", "a = *<void (i32)> p (1);", "T07 result use"),
+        ("gimple 2; ", "b = *<i32 (i32)> p (1);", "T04 operand type"),
+        ("gimple 2; ", "a = *<i32 (i32)> p (1);", ""),
+        ("gimple 2; ", "p = &f;", ""),
+    ];
+    for (header, statement, fault) in cases {
+        let parts = [header, before, statement, " return 0; }"];
+        let told = format!(in alloc; "function 2 statement 1: error: {fault}")?;
+        let wanted = if fault.is_empty() { "" } else { told.as_str() };
+        assert!(rt; tells(alloc, &parts, wanted)?, "{header}{statement}");
+    }
+    Ok(())
+}

@@ -20,6 +20,12 @@ fn programs(rt: HostRuntime) -> Result<(), TestFail> {
             "a.g: function 2 statement 1: error: T05 argument count\n",
         ),
         ("", 1, None, "a.g:1:1: error: early end\n"),
+        (
+            "gimple 2;",
+            1,
+            None,
+            "a.g: program: error: T03 no main or wrong main\n",
+        ),
         ("gimple 3;", 1, None, "a.g:1:8: error: bad token\n"),
         ("gimple 1;\n$\n", 1, None, "a.g:2:1: error: bad byte\n"),
     ];

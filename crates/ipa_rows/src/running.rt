@@ -1,7 +1,9 @@
 //! Runs of programs by `gimple-run`.
 
 use crate::run::{Run, runs_out};
-use crate::sources::{ARGUMENT_COUNT, COUNTDOWN, MINIMAL};
+use crate::sources::{
+    ARGUMENT_COUNT, COUNTDOWN, INDIRECT_CALL, MINIMAL, WRAPPING_DIVISION, WRAPPING_SUMS,
+};
 use ipa_driver::Fail;
 use std::test::Fail as TestFail;
 
@@ -117,6 +119,29 @@ i32 main () {
 }
 ";
 
+const BAD_CALL: &str = "gimple 2;
+i32 f (i32 n) {
+  <bb 2>:
+    return n;
+}
+i32 main () {
+  ptr p;
+  <bb 2>:
+    p = &f;
+    *<void (i32)> p (1);
+    return 0;
+}
+";
+
+const NULL_CALL: &str = "gimple 2;
+i32 main () {
+  ptr p;
+  <bb 2>:
+    *<void (i32)> p (1);
+    return 0;
+}
+";
+
 const ECHO: &str = "gimple 1;
 i32 main () {
   i64 a;
@@ -159,6 +184,18 @@ fn outcomes(rt: HostRuntime) -> Result<(), TestFail> {
         ("a.g", READ_ONLY, "trapped ReadOnly\n"),
         ("a.g", SHIFT, "trapped Shift\n"),
         ("a.g", ABORT, "7\ntrapped Abort\n"),
+        ("a.g", WRAPPING_SUMS, "0\ntrapped Overflow\n"),
+        ("-fwrapv a.g", WRAPPING_SUMS, "0\n-128\nended 0\n"),
+        (
+            "-fwrapv --turns=9 -ftrapv a.g",
+            WRAPPING_SUMS,
+            "0\ntrapped Overflow\n",
+        ),
+        ("-fwrapv a.g", WRAPPING_DIVISION, "trapped Overflow\n"),
+        ("a.g", INDIRECT_CALL, "4\n4\nended 0\n"),
+        ("--turns=2 a.g", INDIRECT_CALL, "4\ngoing\n"),
+        ("--turns=0 a.g", BAD_CALL, "trapped BadCall\n"),
+        ("--turns=0 a.g", NULL_CALL, "trapped NullAccess\n"),
         (
             "a.g -9223372036854775808 007",
             ECHO,
@@ -261,6 +298,7 @@ fn usage(rt: HostRuntime) -> Result<(), TestFail> {
             "gimple-run: word 3: error: U03 bad value\n",
         ),
         ("a.g -", "gimple-run: word 2: error: U03 bad value\n"),
+        ("a.g -fwrapv", "gimple-run: word 2: error: U03 bad value\n"),
     ];
     for (line, told) in runs {
         let run = Run {

@@ -64,3 +64,55 @@ i32 main () {
     return -1;
 }
 ";
+
+/// An unsigned sum and a signed one that leave their types.
+pub const WRAPPING_SUMS: &str = "gimple 1;
+i32 main () {
+  u8 a;
+  u8 b;
+  i8 c;
+  i8 d;
+  <bb 2>:
+    a = 255;
+    b = a + 1;
+    putint (b);
+    c = 127;
+    d = c + 1;
+    putint (d);
+    return 0;
+}
+";
+
+/// The one quotient that leaves its type.
+pub const WRAPPING_DIVISION: &str = "gimple 1;
+i32 main () {
+  i32 a;
+  <bb 2>:
+    a = -2147483648;
+    a = a / -1;
+    putint (a);
+    return 0;
+}
+";
+
+/// A function called by its name, and then through its address in a global.
+pub const INDIRECT_CALL: &str = "gimple 2;
+global ptr h = {&f};
+i32 f (i32 n) {
+  i32 x;
+  <bb 2>:
+    x = n + 1;
+    return x;
+}
+i32 main () {
+  ptr p;
+  i32 a;
+  <bb 2>:
+    a = f (3);
+    putint (a);
+    p = MEM <ptr> [&h];
+    a = *<i32 (i32)> p (3);
+    putint (a);
+    return 0;
+}
+";
