@@ -33,4 +33,5 @@ pub mod Shapes
 pub mod Pointers
 pub mod Slots
 pub mod Variables
+pub mod TypedEvents
 pub mod Callings

@@ -133,7 +133,7 @@ globals_typed structs all targets names number k earlier out (g ∷ gs) m h e =
     globals_typed structs all targets names (number + 1) (k + 1) a.0 out gs (with_object m (GlobalObject k) (layout_of structs g.decl) g.constant (map (item_value all) g.items)) a.2
     (list_all-append (λ (y : MemorySlot). is_of y.scalar y.value) m.slots _ ∙ rw (e, items_typed all targets names (GlobalObject k) (layout_of structs g.decl).slots g.items items) refl)
 
-first_typed : (p : Program) → first_fault p ≡ None → slots_typed (first_memory p).slots ≡ true
+pub first_typed : (p : Program) → first_fault p ≡ None → slots_typed (first_memory p).slots ≡ true
 unfolding first_fault checked
 first_typed p h =
     let all = no_fault (checked p) h in

@@ -53,7 +53,7 @@ third_true false b c e = cc
 slot_scalar : (object : Object) (offset : ℕ) (scalar : Scalar) (x : MemorySlot) → is_slot object offset scalar x ≡ true → x.scalar ≡ scalar
 slot_scalar object offset scalar x e = same_scalar_true x.scalar scalar (third_true (same_object x.object object) (x.offset == offset) (same_scalar x.scalar scalar) e)
 
-abbrev FoundIs : Scalar → Result FoundSlot TrapKind → Type 0
+abbrev pub FoundIs : Scalar → Result FoundSlot TrapKind → Type 0
 FoundIs scalar (Ok f) = is_of scalar f.value ≡ true
 FoundIs scalar (Err k) = Unit {0}
 
@@ -81,7 +81,7 @@ module _ (slots : List MemorySlot) (t : slots_typed slots ≡ true) (scalar : Sc
       all_updated (λ (x : MemorySlot). is_of x.scalar x.value) (is_slot object offset scalar) (λ (x : MemorySlot). record x { value = v }) slots t
       (λ x e. ap (λ a. is_of a v) (slot_scalar object offset scalar x (found_test (is_slot object offset scalar) slots x e)) ∙ h)
 
-found_is : (m : Memory) (t : slots_typed m.slots ≡ true) (v : Value) (scalar : Scalar) → FoundIs scalar (found_at m v scalar)
+pub found_is : (m : Memory) (t : slots_typed m.slots ≡ true) (v : Value) (scalar : Scalar) → FoundIs scalar (found_at m v scalar)
 unfolding found_at
 found_is m t (Int z) scalar = tt
 found_is m t Null scalar = tt

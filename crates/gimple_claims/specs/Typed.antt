@@ -1,5 +1,5 @@
 -- Values of their scalars.
-use Rattle.std.specs.Prelude.{◌≡◌, ℤ, Bool, true, false, ◌&&◌, List, [], ◌∷◌, None}
+use Rattle.std.specs.Prelude.{◌≡◌, ℕ, ℤ, Bool, true, false, ◌&&◌, List, [], ◌∷◌, None}
 use Rattle.std.specs.List.{AllByRecursion, list_all}
 use Rattle.gimple_ir.specs.declared.scalar.Scalar.TheVariants.{I64}
 use Rattle.gimple_ir.specs.declared.declarations.Register.{Register}
@@ -8,7 +8,7 @@ use Rattle.gimple_core.specs.declared.machine.MemorySlot.{MemorySlot}
 use Rattle.gimple_core.specs.Sealed.{Sealed}
 use Rattle.gimple_core.specs.Operators.{in_scalar}
 use Rattle.gimple_core.specs.State.{Control, Frame, State, registers_of, is_of}
-use Rattle.gimple_core.specs.Trace.{Event}
+use Rattle.gimple_core.specs.Trace.{Event, Entry, At, Load, Store, Leave, EachAfter, Trace}
 use Rattle.gimple_core.specs.Accepted.{first_fault}
 use Rattle.gimple_claims.specs.Runs.{Comes}
 
@@ -34,3 +34,15 @@ pub record StateTyped (s : State) : Type 0 where
 -- in each state of each run of an accepted program, on an input of i64 numbers, registers and slots hold values of their scalars
 abbrev pub ValuesAreTyped : Type 0
 ValuesAreTyped = (p : Sealed) → first_fault p.program ≡ None → (input : List ℤ) → list_all (in_scalar I64) input ≡ true → (past : List Event) (s : State) → Comes p input past s → StateTyped s
+
+-- the arguments of a call that begins and the memory then; registers and memory at a point; what an access gives or puts
+abbrev pub EventTyped : Event → Type 0
+EventTyped (Entry serial g arguments m caller) = (registers_typed g.params arguments ≡ true) × (slots_typed m.slots ≡ true)
+EventTyped (At c w) = (frame_typed c w.registers ≡ true) × (slots_typed w.memory.slots ≡ true)
+EventTyped (Load c scalar object offset v) = is_of scalar v ≡ true
+EventTyped (Store c scalar object offset v) = is_of scalar v ≡ true
+EventTyped (Leave serial) = Unit {0}
+
+-- so what each event tells is of its scalar
+abbrev pub EventsAreTyped : Type 0
+EventsAreTyped = (p : Sealed) → first_fault p.program ≡ None → (input : List ℤ) → list_all (in_scalar I64) input ≡ true → (n : ℕ) → EachAfter (λ past e. EventTyped e) [] (Trace p input n)

@@ -6,7 +6,7 @@ ghost use Rattle.gimple_claims.specs.Laws.{SerialsGrow, EntriesAreNew, FramesAre
 ghost use Rattle.gimple_claims.specs.Pointers.{PointersAreOld, EntriesGetOldPointers};
 ghost use Rattle.gimple_claims.specs.Shapes.{MemoryIsLaidOut};
 ghost use Rattle.gimple_claims.specs.Slots.{SlotsKeepValues};
-ghost use Rattle.gimple_claims.specs.Typed.{ValuesAreTyped};
+ghost use Rattle.gimple_claims.specs.Typed.{EventsAreTyped, ValuesAreTyped};
 ghost use Rattle.gimple_claims.specs.Variables.{VariablesLive, VariablesHaveSlots, AccessesFindSlots};
 ghost use Rattle.gimple_claims.specs.Addressed.{FunctionValuesAreAddressed};
 
@@ -68,9 +68,10 @@ pub fn aborts_are_of_abort()
 {}
 
 /// In a run of a program without a type fault, on numbers of i64, each register and each slot of memory holds a value of
-/// its scalar.
+/// its scalar, and so does what each event tells: arguments, what a load gives and what a store puts.
 pub fn values_are_typed()
-    ensures { ValuesAreTyped }
+    ensures states { ValuesAreTyped }
+    ensures events { EventsAreTyped }
 {}
 
 /// In a run of a program without a type fault each function value in a register or a slot is of a function of the program
