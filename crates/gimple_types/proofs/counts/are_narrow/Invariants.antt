@@ -1,4 +1,4 @@
-use Rattle.std.proofs.Common.{◌≡◌, ◌↔◌, ◌+◌, ◌<◌, ◌^◌, length, sum_by}
+use Rattle.std.proofs.Common.{◌↔◌, length}
 use Rattle.std.specs.List.{All}
 use Rattle.gimple_types.specs.Counted.{IsNarrow}
 use Rattle.gimple_types.proofs.counts.are_narrow.Given as goal

@@ -1,4 +1,4 @@
-use Rattle.std.proofs.Common.{◌≡◌, ◌↔◌, ◌+◌, ◌<◌, ◌^◌, length, sum_by}
+use Rattle.std.proofs.Common.{◌≡◌, ◌+◌, ◌<◌, ◌^◌, length, sum_by}
 use Rattle.gimple_ir.specs.Size.{size_of_block}
 use Rattle.gimple_types.proofs.counts.size_of_function.Given as goal
 
