@@ -16,5 +16,6 @@ pub mod EnvLemmas
 pub mod Heads
 pub mod SameChecks
 pub mod KeptAccepted
+pub mod ReplacingLaws
 pub mod AcceptedTyped
 pub mod ProgramTyped

@@ -6,6 +6,8 @@ pub mod State
 pub mod Run
 pub mod Trace
 pub mod Reach
+pub mod Growth
+pub mod Replacing
 pub mod Verdict
 pub mod Env
 pub mod Statements

@@ -8,6 +8,7 @@ mod machine;
 mod names;
 mod operators;
 mod reach;
+mod replacing;
 mod size;
 #[cfg(test)]
 mod tests;
@@ -26,4 +27,5 @@ pub use machine::{Extent, FoundSlot, MemorySlot};
 pub use names::same_name;
 pub use operators::{bits, eval_cmp, eval_op, fits, from_low, half, low, modulus, signed, wrap};
 pub use reach::dropping_keeps_runs;
+pub use replacing::replacing_is_transitive;
 pub use size::{size_of_function, size_of_program};
