@@ -1,19 +1,16 @@
--- What main reaches by names is what its number reaches along the edges.
+-- The edges of a program are of its calls by name.
 use Rattle.std.proofs.Common.{◌≡◌, ℕ, ◌+◌, ◌<◌, ◌==◌, ◌⊎◌, inl, inr, Bool, true, false, List, [], ◌∷◌, map, length, get_or, Some, sym, ◌∙◌, ap, subst, arith, slice_get, option_map}
 use Rattle.std.specs.List.{Contains}
 use Rattle.std.proofs.lemmas.Option.{slice_get_within, slice_get-map}
 use Rattle.gimple_ir.specs.declared.point.Edge.{Edge}
 use Rattle.gimple_ir.specs.declared.program.Function.{Function}
 use Rattle.gimple_ir.specs.declared.program.Program.{Program}
-use Rattle.gimple_core.specs.Run.{function_named, main_name}
-use Rattle.gimple_core.specs.Reach.{CallInBlocks, IsReached, main, called}
-use Rattle.call_graph.specs.Calls.{names_of, number_in, edges_of, callees_in, with_callee, callees_of, function_edges, CallsStand}
-use Rattle.call_graph.specs.Graph.{Leads, start, along, AreMarks}
+use Rattle.call_graph.specs.Calls.{names_of, number_in, edges_of, callees_in, with_callee, callees_of, function_edges}
 use Rattle.std.proofs.lemmas.Bool.Decides.{eqb_tells}
 use Rattle.std.proofs.lemmas.List.Elements.{Contains-append_cases}
-use Rattle.call_graph.specs.Reached.{AreReached}
 use Rattle.graph_walk.proofs.Parting.{here, later}
-use Rattle.call_graph.proofs.Naming.{function_at, name_at, number_at}
+use Rattle.call_graph.proofs.Called.{CalledInBlocks}
+use Rattle.call_graph.proofs.Callees.{CallsStand}
 use Rattle.call_graph.proofs.Calling.{IsCallOf, functions_made, functions_make}
 
 pub name_of : (fs : List Function) (k : ℕ) (f : Function) → slice_get fs k ≡ Some f → slice_get (map (λ g. g.name) fs) k ≡ Some f.name
@@ -26,61 +23,19 @@ module _ (p : Program) where
   edge_from a b h = functions_made (names_of p) a b 0 p.functions h
 
   -- a call makes an edge
-  pub edge_to : (a : ℕ) (f : Function) (name : List ℕ) → slice_get p.functions a ≡ Some f → CallInBlocks name f.blocks → Contains (callees_of p a) (number_in (names_of p) name)
+  pub edge_to : (a : ℕ) (f : Function) (name : List ℕ) → slice_get p.functions a ≡ Some f → CalledInBlocks name f.blocks → Contains (callees_of p a) (number_in (names_of p) name)
   unfolding edges_of
   edge_to a f name h r =
       let P : ℕ → Type 0 = λ k. Contains (callees_in (function_edges (names_of p) 0 p.functions) k) (number_in (names_of p) name) in
       let sum : 0 + a ≡ a = omega arith in
       subst P sum (functions_make (names_of p) 0 a name p.functions f h r)
 
-  -- what is reached by names is reached by numbers
-  pub reached_leads : (name : List ℕ) → IsReached p name → Leads (callees_of p) (number_in (names_of p) main_name) (number_in (names_of p) name)
-  reached_leads _ main = start
-  reached_leads _ (called name f callee r stands calls) =
-      along (number_in (names_of p) name) (number_in (names_of p) callee) (reached_leads name r)
-      (edge_to (number_in (names_of p) name) f callee (sym (function_at p.functions name) ∙ stands) calls)
-
-  module _ (stand : CallsStand p) where
-    -- edges lead to functions
-    pub edge_ends : (a b : ℕ) → Contains (callees_of p a) b → b < length p.functions
-    edge_ends a b h =
-        let call = edge_from a b h in
-        let low = stand.callees call.place call.function call.call.name call.stands call.call.calls in
-        omega (arith, low, call.call.callee)
-
-    pub leads_inside : (a : ℕ) → Leads (callees_of p) (number_in (names_of p) main_name) a → a < length p.functions
-    leads_inside _ start = stand.main
-    leads_inside _ (along x y r h) = edge_ends x y h
-
-    -- what is reached by numbers is reached by names
-    pub leads_reached : (a : ℕ) (name : List ℕ) → Leads (callees_of p) (number_in (names_of p) main_name) a → slice_get (names_of p) a ≡ Some name → IsReached p name
-    leads_reached _ name start h =
-        let P : List ℕ → Type 0 = λ n. IsReached p n in
-        subst P (sym (name_at (names_of p) main_name name h)) main
-    leads_reached _ name (along a b r h) e =
-        let call = edge_from a b h in
-        let here : slice_get p.functions a ≡ Some call.function = (let P : ℕ → Type 0 = λ k. slice_get p.functions k ≡ Some call.function in subst P (sym (call.call.caller ∙ (omega arith))) call.stands) in
-        let named = name_of p.functions a call.function here in
-        let number = number_at (names_of p) a call.function.name stand.distinct named in
-        let Q : ℕ → Type 0 = λ k. slice_get p.functions k ≡ Some call.function in
-        let found : function_named call.function.name p.functions ≡ Some call.function = function_at p.functions call.function.name ∙ subst Q (sym number) here in
-        let R : ℕ → Type 0 = λ k. slice_get (names_of p) k ≡ Some name in
-        let same = name_at (names_of p) call.call.name name (subst R (sym call.call.callee) e) in
-        let P : List ℕ → Type 0 = λ n. IsReached p n in
-        subst P (sym same) (called call.function.name call.function call.call.name (leads_reached a call.function.name r named) found call.call.calls)
-
-    -- the marks of a walk are one for each function that main reaches
-    pub marks_reached : (marks : List Bool) → AreMarks (callees_of p) (length p.functions) (number_in (names_of p) main_name) marks → AreReached p marks
-    marks_reached marks are = record {
-      one_each = are.one_each;
-      exact = λ k f h. (
-          let named = name_of p.functions k f h in
-          let low = slice_get_within p.functions k f h in
-          let P : ℕ → Type 0 = λ i. Leads (callees_of p) (number_in (names_of p) main_name) i in (
-            λ on. leads_reached k f.name ((are.exact k low).0 on) named,
-            λ r. (are.exact k low).1 (subst P (number_at (names_of p) k f.name stand.distinct named) (reached_leads f.name r)),
-          ));
-    }
+  -- edges lead to functions
+  pub edge_ends : CallsStand p → (a b : ℕ) → Contains (callees_of p a) b → b < length p.functions
+  edge_ends stand a b h =
+      let call = edge_from a b h in
+      let low = stand.callees call.place call.function call.call.name call.stands call.call.calls in
+      omega (arith, low, call.call.callee)
 
 edge_listed : (es : List Edge) (e : Edge) → Contains es e → Contains (callees_in es e.caller) e.callee
 unfolding callees_in

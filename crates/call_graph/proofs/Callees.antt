@@ -1,104 +1,89 @@
 -- The names that calls of an accepted program rest on.
-use Rattle.std.proofs.Common.{◌≡◌, ℕ, zero, suc, ◌+◌, ◌<◌, inl, inr, Bool, true, false, not, cond, List, [], ◌∷◌, ◌++◌, map, length, take, get_or, is_some, Some, Ok, refl, sym, ◌∙◌, ap, subst, arith, append_assoc, append-nil, if◌then◌else◌, slice_get, option_map, true≢false}
+use Rattle.std.proofs.Common.{◌≡◌, ℕ, zero, suc, ◌+◌, ◌<◌, inl, inr, Bool, true, false, not, cond, List, [], ◌∷◌, ◌++◌, map, length, take, get_or, is_some, Option, Some, Ok, refl, sym, ◌∙◌, ap, subst, arith, append_assoc, append-nil, slice_get, option_map, true≢false}
 use Rattle.std.proofs.lemmas.Bool.{cases_lt}
 use Rattle.std.proofs.lemmas.List.{length-map}
-use Rattle.std.proofs.lemmas.Option.{get_or_from_slice_get, slice_get-map}
+use Rattle.std.proofs.lemmas.Option.{get_or_from_slice_get, slice_get-map, slice_get_within}
 use Rattle.std.specs.Str.{bytes_eq}
+use Rattle.gimple_ir.specs.declared.operand.Operand.{Operand}
+use Rattle.gimple_ir.specs.declared.statement.Signature.{Signature}
 use Rattle.gimple_ir.specs.declared.statement.Stmt.{Stmt}
-use Rattle.gimple_ir.specs.declared.statement.Stmt.TheVariants.{Copy, Arith, Compare, Convert, Load, Store, Call, Get, Put, Abort}
+use Rattle.gimple_ir.specs.declared.statement.Stmt.TheVariants.{Copy, Arith, Compare, Convert, Load, Store, Call, Indirect, Get, Put, Abort}
 use Rattle.gimple_ir.specs.declared.block.Block.{Block}
 use Rattle.gimple_ir.specs.declared.declarations.Global.{Global}
 use Rattle.gimple_ir.specs.declared.program.Function.{Function}
 use Rattle.gimple_ir.specs.declared.program.Program.{Program}
-use Rattle.gimple_ir.specs.declared.fault.Site.TheVariants as site
-use Rattle.gimple_core.specs.Run.{Calling, call_of, main_name}
-use Rattle.gimple_core.specs.Reach.{CallIn, CallInBlocks}
-use Rattle.gimple_core.specs.Verdict.{demand, found, at}
-use Rattle.gimple_core.specs.Env.{Env, Names, named, has, functions_by_name, globals_by_name}
-use Rattle.gimple_core.specs.Statements as s
+use Rattle.gimple_core.specs.Run.{Callee, Named, Through, Calling, call_of, function_named, main_name}
+use Rattle.gimple_core.specs.Verdict.{demand, at}
+use Rattle.gimple_core.specs.Env.{Env, Names, named, has, targets_of, functions_by_name, globals_by_name}
 use Rattle.gimple_core.specs.Declarations as d
-use Rattle.gimple_core.specs.Accepted.{first_fault, checked, known_env}
-use Rattle.gimple_core.specs.Accepted.{IsAccepted}
-use Rattle.gimple_core.proofs.Passed.{first_passed, at_passed, found_so, no_fault}
-use Rattle.gimple_core.proofs.EnvLemmas.{same_test, declared_new, named_here}
-use Rattle.gimple_core.proofs.KeptAccepted.{heads_are}
-use Rattle.call_graph.specs.Calls.{AreDistinct, number_in, CallsStand}
+use Rattle.gimple_core.specs.Accepted.{first_fault, checked, IsAccepted}
+use Rattle.gimple_core.specs.Typed.{StatementTyped, BodyTyped, BlocksTyped, FunctionsTyped, env_of}
+use Rattle.gimple_core.proofs.Passed.{first_passed, at_passed, no_fault}
+use Rattle.gimple_core.proofs.EnvLemmas.{named_find, declared_new, named_here}
+use Rattle.gimple_core.proofs.ProgramTyped.{accepted_typed}
+use Rattle.call_graph.specs.Calls.{number_in, names_of}
+use Rattle.call_graph.proofs.Called.{CalledIn, CalledInBlocks}
+use Rattle.call_graph.proofs.Naming.{AreDistinct, function_at}
+
+-- the functions have distinct names, and there is one of each name that is called, `main` among them
+pub record CallsStand (p : Program) : Type 0 where
+  pub distinct : AreDistinct (names_of p)
+  pub main : number_in (names_of p) main_name < length p.functions
+  pub callees : (k : ℕ) (f : Function) (name : List ℕ) → slice_get p.functions k ≡ Some f → CalledInBlocks name f.blocks → number_in (names_of p) name < length p.functions
 
 -- ---- callees are there
 
-named_so : (a b : Calling) → Some a ≡ Some b → a.callee ≡ b.callee
-named_so a b e = let same : a ≡ b = cc in ap (λ (c : Calling). c.callee) same
+-- a name that a function has is the name of a number
+pub named_number : (fs : List Function) (name : List ℕ) (f : Function) → function_named name fs ≡ Some f → number_in (map (λ g. g.name) fs) name < length fs
+named_number fs name f e = slice_get_within fs (number_in (map (λ g. g.name) fs) name) f (sym (function_at fs name) ∙ e)
 
-statement_has : (env : Env) (functions : Names Function) (x : Stmt) (c : Calling) → call_of x ≡ Some c → s.statement env functions x ≡ Ok tt → has c.callee functions ≡ true
-unfolding s.statement s.called
-statement_has env functions (Call to callee xs) c e h =
-    let p = first_passed (s.target env to) _ tt h in
-    let q = first_passed (found (named callee functions) 1) _ tt p.2 in
-    let same : callee ≡ c.callee = named_so (record { to = to; callee = callee; arguments = xs }) c e in
-    ap (λ n. has n functions) (sym same) ∙ ap is_some (found_so (named callee functions) 1 q.0 q.1)
-statement_has env functions (Copy to from) c e h = cc e
-statement_has env functions (Arith to left op right) c e h = cc e
-statement_has env functions (Compare to left cmp right) c e h = cc e
-statement_has env functions (Convert to scalar from) c e h = cc e
-statement_has env functions (Load to scalar from) c e h = cc e
-statement_has env functions (Store scalar to from) c e h = cc e
-statement_has env functions (Get to) c e h = cc e
-statement_has env functions (Put from) c e h = cc e
-statement_has env functions Abort c e h = cc e
+-- a function of this name is there
+abbrev IsThere : List Function → List ℕ → Type 0
+IsThere fs name = (f : Function) × (named name (functions_by_name fs) ≡ Some f)
 
-body_has : (env : Env) (functions : Names Function) (name : List ℕ) (index number : ℕ) (xs : List Stmt) → CallIn name xs → s.body env functions index number xs ≡ Ok tt → has name functions ≡ true
-unfolding s.body
-body_has env functions name index number _ (CallIn.here x xs c e is) h =
-    let p = first_passed (at _ (s.statement env functions x)) _ tt h in
-    let P : List ℕ → Type 0 = λ n. has n functions ≡ true in
-    subst P is (statement_has env functions x c e (at_passed _ (s.statement env functions x) tt p.1))
-body_has env functions name index number _ (CallIn.later x xs r) h =
-    let p = first_passed (at _ (s.statement env functions x)) _ tt h in
-    body_has env functions name index (number + 1) xs r p.2
+called_so : (c : Calling) (to : Option (List ℕ)) (callee : Callee) (xs : List Operand) → Some (record { to = to; callee = callee; arguments = xs }) ≡ Some c → c.callee ≡ callee
+called_so c to callee xs e = let same : record { to = to; callee = callee; arguments = xs } ≡ c = cc in ap (λ (d : Calling). d.callee) (sym same)
 
-blocks_have : (env : Env) (functions : Names Function) (name : List ℕ) (index number : ℕ) (bs : List Block) → CallInBlocks name bs → s.blocks env functions index number bs ≡ Ok tt → has name functions ≡ true
-unfolding s.blocks
-blocks_have env functions name index number _ (CallInBlocks.here b bs r) h =
-    let p = first_passed (s.body env functions index number b.body) _ tt h in
-    body_has env functions name index number b.body r p.1
-blocks_have env functions name index number _ (CallInBlocks.later b bs r) h =
-    let p = first_passed (s.body env functions index number b.body) _ tt h in
-    let q = first_passed (at _ (s.ending env b.end)) _ tt p.2 in
-    blocks_have env functions name index (number + length b.body + 1) bs r q.2
+named_so : (a b : List ℕ) → Named a ≡ Named b → a ≡ b
+named_so a b e = cc
 
-functions_have : (known : Env) (callees : Names Function) (number k : ℕ) (fs : List Function) (f : Function) (name : List ℕ) → d.functions known callees number fs ≡ Ok tt → slice_get fs k ≡ Some f → CallInBlocks name f.blocks → has name callees ≡ true
-unfolding d.functions d.one_function
-functions_have known callees number k [] f name h e r = cc e
-functions_have known callees number zero (g ∷ fs) f name h e r =
+not_through : (a b : List ℕ) (signature : Signature) → Named a ≡ Through b signature → ⊥
+not_through a b signature e = cc
+
+statement_there : (env : Env) (fs : List Function) (name : List ℕ) (x : Stmt) (c : Calling) → call_of x ≡ Some c → c.callee ≡ Named name → StatementTyped env (functions_by_name fs) x → IsThere fs name
+statement_there env fs name (Call to callee xs) c e is typed =
+    let same : callee ≡ name = named_so callee name (sym (called_so c to (Named callee) xs e) ∙ is) in
+    (typed.0, ap (λ n. named n (functions_by_name fs)) (sym same) ∙ typed.1)
+statement_there env fs name (Indirect to signature callee xs) c e is typed =
+    absurd (not_through name callee signature (sym is ∙ called_so c to (Through callee signature) xs e))
+statement_there env fs name (Copy to from) c e is typed = cc e
+statement_there env fs name (Arith to left op right) c e is typed = cc e
+statement_there env fs name (Compare to left cmp right) c e is typed = cc e
+statement_there env fs name (Convert to scalar from) c e is typed = cc e
+statement_there env fs name (Load to scalar from) c e is typed = cc e
+statement_there env fs name (Store scalar to from) c e is typed = cc e
+statement_there env fs name (Get to) c e is typed = cc e
+statement_there env fs name (Put from) c e is typed = cc e
+statement_there env fs name Abort c e is typed = cc e
+
+body_there : (env : Env) (fs : List Function) (name : List ℕ) (xs : List Stmt) → CalledIn name xs → BodyTyped env (functions_by_name fs) xs → IsThere fs name
+body_there env fs name _ (CalledIn.here x xs c e is) typed = statement_there env fs name x c e is typed.0
+body_there env fs name _ (CalledIn.later x xs r) typed = body_there env fs name xs r typed.1
+
+blocks_there : (env : Env) (fs : List Function) (name : List ℕ) (bs : List Block) → CalledInBlocks name bs → BlocksTyped env (functions_by_name fs) bs → IsThere fs name
+blocks_there env fs name _ (CalledInBlocks.here b bs r) typed = body_there env fs name b.body r typed.0
+blocks_there env fs name _ (CalledInBlocks.later b bs r) typed = blocks_there env fs name bs r typed.2
+
+functions_there : (p : Program) (fs : List Function) (k : ℕ) (f : Function) (name : List ℕ) → FunctionsTyped p fs → slice_get fs k ≡ Some f → CalledInBlocks name f.blocks → IsThere p.functions name
+functions_there p [] k f name typed e r = cc e
+functions_there p (g ∷ fs) zero f name typed e r =
     let same : g ≡ f = cc in
-    let P : Function → Type 0 = λ x. CallInBlocks name x.blocks in
-    let p = first_passed (d.one_function known callees number g) _ tt h in
-    let q = first_passed (at _ (d.own known callees g)) _ tt p.1 in
-    blocks_have q.0 callees name number 1 g.blocks (subst P (sym same) r) q.2
-functions_have known callees number (suc k) (g ∷ fs) f name h e r =
-    let p = first_passed (d.one_function known callees number g) _ tt h in
-    functions_have known callees (number + 1) k fs f name p.2 e r
+    blocks_there (env_of p g) p.functions name g.blocks (subst (λ (x : Function). CalledInBlocks name x.blocks) (sym same) r) typed.2
+functions_there p (g ∷ fs) (suc k) f name typed e r = functions_there p fs k f name typed.3 e r
 
--- ---- names have numbers
-
-has_number : (fs : List Function) (name : List ℕ) → has name (functions_by_name fs) ≡ true → number_in (map (λ f. f.name) fs) name < length fs
-unfolding number_in
-has_number [] name h = cc h
-has_number (f ∷ fs) name h = by (bytes_eq name f.name) (bytes_eq f.name name) (same_test name f.name) (has_number fs name) h
-  where
-    by : (a b : Bool) → a ≡ b → (has name (functions_by_name fs) ≡ true → number_in (map (λ g. g.name) fs) name < length fs) → is_some (cond a (Some f) (named name (functions_by_name fs))) ≡ true → cond (not b) (1 + number_in (map (λ g. g.name) fs) name) 0 < length (f ∷ fs)
-    by a true e more k = omega arith
-    by true false e more k = cc e
-    by false false e more k = let low = more k in omega (arith, low)
-
-main_has : (number : ℕ) (fs : List Function) → d.main number fs ≡ Ok tt → has main_name (functions_by_name fs) ≡ true
-unfolding d.main
-main_has number [] h = cc h
-main_has number (f ∷ fs) h = by (bytes_eq main_name f.name) (main_has (number + 1) fs) h
-  where
-    by : (a : Bool) → (d.main (number + 1) fs ≡ Ok tt → has main_name (functions_by_name fs) ≡ true) → (if a then at (site.Statement number 0) (demand (d.is_main f.params f.result) 3) else d.main (number + 1) fs) ≡ Ok tt → is_some (cond a (Some f) (named main_name (functions_by_name fs))) ≡ true
-    by true more k = refl
-    by false more k = more k
+there_number : (fs : List Function) (name : List ℕ) → IsThere fs name → number_in (map (λ f. f.name) fs) name < length fs
+unfolding function_named
+there_number fs name t = named_number fs name t.0 (sym (named_find (λ (f : Function). f.name) name fs) ∙ t.1)
 
 -- ---- names are distinct
 
@@ -181,13 +166,11 @@ unfolding first_fault checked
 accepted_calls p h =
     let all = no_fault _ h in
     let a = first_passed (d.structs p.structs 0 [] p.structs) _ tt all in
-    let b = first_passed (d.globals p.structs (globals_by_name p.globals) 0 [] p.globals) _ tt a.2 in
+    let b = first_passed (d.globals p.structs (targets_of p) (globals_by_name p.globals) 0 [] p.globals) _ tt a.2 in
     let c = first_passed (d.heads b.0 0 [] p.functions) _ tt b.2 in
-    let m = first_passed (d.main 0 p.functions) _ tt c.2 in
-    let same : c.0 ≡ functions_by_name p.functions = heads_are b.0 0 [] c.0 p.functions c.1 in
+    let (main, functions) = accepted_typed p h in
     record {
       distinct = heads_distinct b.0 0 c.0 p.functions c.1;
-      main = has_number p.functions main_name (main_has 0 p.functions m.1);
-      callees = λ k f name e r. has_number p.functions name
-          (ap (has name) (sym same) ∙ functions_have (known_env p.structs b.0) c.0 0 k p.functions f name m.2 e r);
+      main = named_number p.functions main_name main.0 main.1;
+      callees = λ k f name e r. there_number p.functions name (functions_there p p.functions k f name functions e r);
     }

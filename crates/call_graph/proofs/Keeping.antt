@@ -6,10 +6,11 @@ use Rattle.gimple_ir.specs.declared.program.Function.{Function}
 use Rattle.gimple_ir.specs.declared.program.Program.{Program}
 use Rattle.gimple_ir.specs.Size.{size_of_function}
 use Rattle.gimple_core.specs.Reach.{IsReached, IsWithoutUnreached}
-use Rattle.call_graph.specs.Calls.{number_in, names_of, CallsStand}
+use Rattle.call_graph.specs.Calls.{number_in, names_of}
 use Rattle.call_graph.specs.Reached.{AreReached}
-use Rattle.call_graph.proofs.Bridge.{reached_leads, leads_inside, name_of}
-use Rattle.call_graph.proofs.Callees.{slice_get_at}
+use Rattle.call_graph.proofs.Bridge.{name_of}
+use Rattle.call_graph.proofs.Callees.{CallsStand, slice_get_at}
+use Rattle.call_graph.proofs.Mentioning.{reached_leads, leads_inside}
 use Rattle.call_graph.proofs.Naming.{name_at, number_at}
 use Rattle.graph_walk.proofs.Walking.{marked_inside}
 use Rattle.call_graph.specs.Reached.{marked, unless_dropped}
@@ -62,7 +63,7 @@ module _ (p : Program) (stand : CallsStand p) (marks : List Bool) (are : AreReac
         let P : List ℕ → Type 0 = λ n. IsReached p n in
         subst P at.2 ((are.exact (number_in (names_of p) name) at.0 at.1).0 on),
     λ r.
-        let low = leads_inside p stand (number_in (names_of p) name) (reached_leads p name r) in
+        let low = leads_inside p stand (number_in (names_of p) name) (reached_leads p stand name r) in
         let at = found_at name low in
         let P : List ℕ → Type 0 = λ n. IsReached p n in
         (are.exact (number_in (names_of p) name) at.0 at.1).1 (subst P (sym at.2) r),

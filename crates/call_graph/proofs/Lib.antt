@@ -1,9 +1,12 @@
 pub mod Naming
 pub mod Sizes
+pub mod Called
+pub mod Addressing
 pub mod Calling
 pub mod Filling
 pub mod Bridge
 pub mod Callees
+pub mod Mentioning
 pub mod Keeping
 pub mod Choosing
 pub mod Ordering

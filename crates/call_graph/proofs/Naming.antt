@@ -1,7 +1,7 @@
 -- Names of functions and their numbers.
-use Rattle.std.proofs.Common.{◌≡◌, ℕ, ◌+◌, ◌≤◌, Bool, true, false, cond, not, nat_lt, List, [], ◌∷◌, map, length, get_or, inl, inr, Some, None, refl, sym, ◌∙◌, ap, subst, arith, slice_get}
+use Rattle.std.proofs.Common.{◌≡◌, ℕ, ◌+◌, ◌<◌, ◌≤◌, Bool, true, false, cond, not, nat_lt, List, [], ◌∷◌, map, length, get_or, inl, inr, Some, None, refl, sym, ◌∙◌, ap, subst, arith, slice_get}
 use Rattle.std.specs.List.{position, position_or_len}
-use Rattle.std.proofs.lemmas.Bool.{ltb-false, cases_Bool}
+use Rattle.std.proofs.lemmas.Bool.{ltb-true, ltb-false, lt-ltb, cases_Bool}
 use Rattle.std.proofs.lemmas.List.Folds.{find_at}
 use Rattle.gimple_core.specs.Run.{function_named}
 use Rattle.gimple_ir.specs.declared.program.Function.{Function}
@@ -9,7 +9,11 @@ use Rattle.std.proofs.lemmas.List.Sums.{prefix_len-le-length, passes_at_first, p
 use Rattle.std.proofs.lemmas.Option.{slice_get_within, get_or_from_slice_get}
 use Rattle.std.specs.Str.{bytes_eq}
 use Rattle.gimple_core.proofs.NameLemmas.{same_name_true, same_name_self}
-use Rattle.call_graph.specs.Calls.{number_in, AreDistinct}
+use Rattle.call_graph.specs.Calls.{number_in}
+
+-- no two of the names are the same
+abbrev pub AreDistinct : List (List ℕ) → Type 0
+AreDistinct names = (i j : ℕ) → i < length names → j < length names → get_or names i [] ≡ get_or names j [] → i ≡ j
 
 -- the place of the first function of a name is the name's number
 named_place : (fs : List Function) (name : List ℕ) → position_or_len (λ f. bytes_eq f.name name) fs ≡ number_in (map (λ f. f.name) fs) name
@@ -24,6 +28,23 @@ found_place false n i h = cc
 -- a place that was found is the number of the name
 pub found_number : (fs : List Function) (name : List ℕ) (i : ℕ) → position (λ f. bytes_eq f.name name) fs ≡ Some i → i ≡ number_in (map (λ f. f.name) fs) name
 found_number fs name i h = found_place _ _ i h ∙ named_place fs name
+
+-- a place that was found is of a function
+pub place_inside : (fs : List Function) (name : List ℕ) (i : ℕ) → position (λ f. bytes_eq f.name name) fs ≡ Some i → i < length fs
+place_inside fs name i h =
+    let n = position_or_len (λ (f : Function). bytes_eq f.name name) fs in
+    by (nat_lt n (length fs)) n refl h
+  where
+    by : (b : Bool) (n : ℕ) → nat_lt n (length fs) ≡ b → cond b (Some n) None ≡ Some i → i < length fs
+    by true n lt e = let same : i ≡ n = found_place true n i e in let low = ltb-true n (length fs) lt in omega (arith, same, low)
+    by false n lt e = cc e
+
+-- a name whose number is that of a function has this place
+pub place_of : (fs : List Function) (name : List ℕ) → number_in (map (λ f. f.name) fs) name < length fs → position (λ f. bytes_eq f.name name) fs ≡ Some (number_in (map (λ f. f.name) fs) name)
+place_of fs name low =
+    let same = named_place fs name in
+    let less : position_or_len (λ f. bytes_eq f.name name) fs < length fs = omega (arith, same, low) in
+    ap (λ b. cond b (Some (position_or_len (λ (f : Function). bytes_eq f.name name) fs)) None) (lt-ltb _ _ less) ∙ ap Some same
 
 missing_place : (b : Bool) (n : ℕ) → cond b (Some n) None ≡ None → b ≡ false
 missing_place true n h = cc

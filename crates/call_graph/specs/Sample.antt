@@ -1,5 +1,5 @@
 -- Two small programs: one of calls, and one of addresses.
-use Rattle.std.specs.Prelude.{ℕ, List, [], ◌∷◌, Some, None, pos}
+use Rattle.std.specs.Prelude.{ℕ, true, List, [], ◌∷◌, Some, None, pos}
 use Rattle.gimple_ir.specs.declared.block.End.TheVariants.{Goto, If, Return}
 use Rattle.gimple_ir.specs.declared.declarations.Global.{Global}
 use Rattle.gimple_ir.specs.declared.declarations.Shape.TheVariants.{Plain}

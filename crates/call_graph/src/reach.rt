@@ -1,50 +1,57 @@
 //! The functions that `main` reaches, and programs without the others.
 
-ghost use Rattle.std.specs.Prelude.{◌≡◌, ℕ, ℤ, ◌<◌, ◌≤◌, ◌^◌, ◌++◌, List, [], length, IfOk, OnOk};
+ghost use Rattle.std.specs.Prelude.{◌≡◌, ◌<◌, ◌≤◌, ◌^◌, ◌++◌, [], length, IfOk, OnOk};
 ghost use Rattle.gimple_core.specs.Reach.{IsWithoutUnreached};
-ghost use Rattle.gimple_core.specs.Run.{Run};
+ghost use Rattle.gimple_core.specs.Replacing.{Replaces};
 ghost use Rattle.gimple_ir.specs.Size.{size_of_program};
 ghost use Rattle.call_graph.specs.Reached.{AreReached, marked, unless_dropped};
 
+use crate::mentions::mentions;
 use crate::names::main_number;
-use crate::rows::callees;
 use gimple_core::{Checked, Function, Listed, Marks, OutOfMemory, Program};
 use graph_walk::reached_in;
 use std::alloc::Global as Heap;
 
-/// For each function in file order, whether `main` reaches it by calls, in any block.
+/// For each function in file order, whether `main` reaches it: whether it is `main`, an item of a global addresses it, or
+/// a function that is reached calls it by name or addresses it, in any block.
 pub fn reached(alloc: Heap, program: &Checked) -> Result<Marks, OutOfMemory>
     requires few { length program.now.program.functions < 2 ^ 32 }
     requires size { size_of_program program.now.program < 2 ^ 32 }
     ensures { IfOk result (AreReached program.now.program) }
 {
-    let rows = callees(alloc, program)?;
+    let rows = mentions(alloc, program)?;
     let root = main_number(program.program().functions.as_slice());
     let marks = reached_in(alloc, rows.as_slice(), root)?;
     Ok(Listed::from_vec(marks))
 }
 
-/// The program without the functions that `main` does not reach. It runs as the program does. After a refusal the
-/// program is gone.
+/// The program without the functions that `main` does not reach, in the same mode. It may replace the program. After a
+/// refusal the program is gone.
 pub fn drop_unreached(alloc: Heap, program: Checked) -> Result<Checked, OutOfMemory>
     requires few { length program.program.functions < 2 ^ 32 }
     requires size { size_of_program program.program < 2 ^ 32 }
     ensures dropped { IfOk result (λ after. IsWithoutUnreached program.program after.program) }
-    ensures runs { IfOk result (λ after. (input : List ℤ) (n : ℕ) → Run after.program input n ≡ Run program.program input n) }
+    ensures replaces { IfOk result (Replaces 1 program) }
     ensures shrinks { IfOk result (λ after. size_of_program after.program ≤ size_of_program program.program) }
 {
     let marks = reached(alloc, &program)?;
+    let mode = program.mode();
     let Program {
+        profile,
         structs,
         globals,
         functions,
     } = program.into_program();
     let functions = keep_marked(alloc, functions.into_vec(), marks.as_slice())?;
-    Ok(Checked::seal(Program {
-        structs,
-        globals,
-        functions: Listed::from_vec(functions),
-    }))
+    Ok(Checked::seal_as(
+        Program {
+            profile,
+            structs,
+            globals,
+            functions: Listed::from_vec(functions),
+        },
+        mode,
+    ))
 }
 
 /// The functions that are marked, in their order.

@@ -1,41 +1,35 @@
 //! What the edges of each function lead to.
 
-ghost use Rattle.std.specs.Prelude.{◌≡◌, ℕ, ◌<◌, ◌^◌, [], ◌∷◌, ◌++◌, length, slice_set, IfOk, OnOk};
+ghost use Rattle.std.specs.Prelude.{◌≡◌, ℕ, ◌<◌, [], ◌∷◌, ◌++◌, length, slice_set, IfOk, OnOk};
 ghost use Rattle.std.specs.List.{Contains};
-ghost use Rattle.gimple_ir.specs.Size.{size_of_program};
-ghost use Rattle.call_graph.specs.Calls.{callees_in, callees_of};
+ghost use Rattle.call_graph.specs.Calls.{callees_in};
 ghost use Rattle.call_graph.specs.Walk.{listed, row_at};
 
-use crate::calls::edges;
-use gimple_core::{Checked, Edge, OutOfMemory};
+use gimple_core::{Edge, OutOfMemory};
 use std::alloc::Global as Heap;
 
-/// The callees of each function of a program, in the order of the calls.
-pub fn callees(alloc: Heap, program: &Checked) -> Result<Vec<Vec<u32>>, OutOfMemory>
-    requires few { length program.now.program.functions < 2 ^ 32 }
-    requires size { size_of_program program.now.program < 2 ^ 32 }
-    ensures one_each { IfOk result (λ rows. length rows.items ≡ length program.now.program.functions) }
-    ensures rows { IfOk result (λ rows. (a : ℕ) → row_at rows.items a ≡ callees_of program.now.program a) }
-    ensures ends { IfOk result (λ rows. (a b : ℕ) → Contains (row_at rows.items a) b → b < length rows.items) }
-{
-    let edges = edges(alloc, program)?;
-    let functions = program.program().functions.len();
-    let rows = rows_of(alloc, edges.as_slice(), functions)?;
-    Ok(rows)
-}
-
 /// The callees of each of so many functions, in the order of the edges.
-#[tactic(auto, unfolding(crate::specs::Calls::callees_in))]
 pub fn rows_of(alloc: Heap, edges: &[Edge], nodes: usize) -> Result<Vec<Vec<u32>>, OutOfMemory>
     requires { (e : _) → Contains edges.now e → e.caller < nodes }
     ensures one_each { IfOk result (λ rows. length rows.items ≡ nodes) }
     ensures rows { IfOk result (λ rows. (a : ℕ) → row_at rows.items a ≡ callees_in edges.now a) }
 {
     let mut rows = empty_rows(alloc, nodes)?;
-    for edge in edges {
-        add_to(&mut rows, edge.caller, edge.callee)?;
-    }
+    add_edges(&mut rows, edges)?;
     Ok(rows)
+}
+
+/// Puts the callee of each edge behind what stands with its caller.
+#[tactic(auto, unfolding(crate::specs::Calls::callees_in))]
+pub fn add_edges(rows: &mut Vec<Vec<u32>>, edges: &[Edge]) -> Result<(), OutOfMemory>
+    requires { (e : _) → Contains edges.now e → e.caller < length rows.old.items }
+    ensures one_each { OnOk result (length rows.new.items ≡ length rows.old.items) }
+    ensures rows { OnOk result ((a : ℕ) → row_at rows.new.items a ≡ row_at rows.old.items a ++ callees_in edges.now a) }
+{
+    for edge in edges {
+        add_to(rows, edge.caller, edge.callee)?;
+    }
+    Ok(())
 }
 
 pub fn empty_rows(alloc: Heap, nodes: usize) -> Result<Vec<Vec<u32>>, OutOfMemory>

@@ -4,7 +4,7 @@ use Rattle.std.proofs.lemmas.List.{length-set}
 use Rattle.gimple_ir.specs.declared.point.Edge.{Edge}
 use Rattle.call_graph.proofs.Filling.{rows_step, listed_length}
 use Rattle.call_graph.specs.Walk.{listed}
-use Rattle.call_graph.proofs.rows.rows_of.Goals as goal
+use Rattle.call_graph.proofs.rows.add_edges.Goals as goal
 
 no_edge : Edge
 no_edge = record { caller = 0; point = record { function = 0; block = 0; index = 0 }; callee = 0 }
