@@ -1,5 +1,5 @@
 -- Which functions the numbers of addresses are of.
-use Rattle.std.proofs.Common.{◌≡◌, ℕ, ℤ, ◌<◌, ◌⊎◌, inl, inr, List, [], ◌∷◌, ◌++◌, Option, Some, None, refl, sym, ap, subst}
+use Rattle.std.proofs.Common.{◌≡◌, ℕ, ℤ, ◌<◌, ◌⊎◌, inl, inr, List, [], ◌∷◌, ◌++◌, Option, Some, None, refl, sym, ◌∙◌, ap, subst, append-nil}
 use Rattle.std.specs.List.{Contains, flat_map, position}
 use Rattle.std.specs.Str.{bytes_eq}
 use Rattle.std.proofs.lemmas.List.Elements.{Contains-append_cases, Contains-append_left, Contains-append_right}
@@ -24,6 +24,15 @@ listed_made (Some k) b h = ap Some (single k b h)
 
 listed_makes : (o : Option ℕ) (b : ℕ) → o ≡ Some b → Contains (number_listed o) b
 listed_makes o b e = subst (λ r. Contains (number_listed r) b) (sym e) (here b [])
+
+module _ (fs : List Function) (x : Operand) (name : List ℕ) (offset : ℤ) (is : x ≡ Address name offset) (old : List ℕ) where
+  -- the number of an address was put behind the others
+  pub address_pushed : (k : ℕ) (new : List ℕ) → IsPlace fs name k → new ≡ old ++ k ∷ [] → new ≡ old ++ operand_address fs x
+  address_pushed k new place pushed = pushed ∙ ap (λ (ks : List ℕ). old ++ ks) (ap number_listed (sym place) ∙ ap (operand_address fs) (sym is))
+
+  -- the address of what is no function has no number
+  pub address_left : position (λ f. bytes_eq f.name name) fs ≡ None → old ≡ old ++ operand_address fs x
+  address_left none = sym (append-nil old) ∙ ap (λ (ks : List ℕ). old ++ ks) (ap number_listed (sym none) ∙ ap (operand_address fs) (sym is))
 
 module _ (fs : List Function) where
   operand_made : (x : Operand) (b : ℕ) → Contains (operand_address fs x) b → (name : List ℕ) × (offset : ℤ) × (x ≡ Address name offset) × IsPlace fs name b

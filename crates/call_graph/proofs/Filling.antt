@@ -33,10 +33,11 @@ rows_step rows news es i d inside low is a =
     let Q : List Edge → Type 0 = λ xs. row_at news a ++ callees_in (drop (i + 1) es) a ≡ row_at rows a ++ callees_in xs a in
     subst Q (sym (drop_more es i d inside)) (subst P (sym is) (row_added (listed rows) e (drop (i + 1) es) a fits))
 
-pub row_pushed : (rows : List (Vec ℕ Global)) (i t : ℕ) (old new : Vec ℕ Global) → i < length rows → old ≡ get_or rows i old → new.items ≡ old.items ++ t ∷ [] → listed (set rows i new) ≡ set (listed rows) i (row_at rows i ++ t ∷ [])
-row_pushed rows i t old new low is more =
+-- a row after some numbers were put behind it
+pub row_longer : (rows : List (Vec ℕ Global)) (i : ℕ) (more : List ℕ) (old new : Vec ℕ Global) → i < length rows → old ≡ get_or rows i old → new.items ≡ old.items ++ more → listed (set rows i new) ≡ set (listed rows) i (row_at rows i ++ more)
+row_longer rows i more old new low is longer =
     let items = λ (x : Vec ℕ Global). x.items in
-    map-set items rows i new ∙ ap (λ (r : List ℕ). set (listed rows) i r) (more ∙ ap (λ (r : List ℕ). r ++ t ∷ []) (row_is rows i old low is))
+    map-set items rows i new ∙ ap (λ (r : List ℕ). set (listed rows) i r) (longer ∙ ap (λ (r : List ℕ). r ++ more) (row_is rows i old low is))
 
 -- a row after a number was put behind it, and the others
 module _ (olds news : List (Vec ℕ Global)) (r : ℕ) (row : List ℕ) (inside : r < length olds) (is : listed news ≡ set (listed olds) r row) where

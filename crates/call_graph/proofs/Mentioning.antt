@@ -65,6 +65,11 @@ in_row g [] a f b e h = cc e
 in_row g (x ∷ fs) zero f b e h = let same : x ≡ f = cc in subst (λ y. Contains (g y) b) (sym same) h
 in_row g (x ∷ fs) (suc a) f b e h = in_row g fs a f b e h
 
+pub address_rows_length : (p : Program) → length (address_rows p) ≡ length p.functions
+address_rows_length p =
+    let rows : List (List ℕ) = map (function_addresses p.functions) p.functions in
+    length-set rows (number_in (names_of p) main_name) _ ∙ length-map p.functions (function_addresses p.functions)
+
 -- ---- what a function mentions, by number
 
 -- the function with the number a mentions a function with the number b, or an item does

@@ -1,6 +1,6 @@
 //! What each function of a program calls by name or addresses.
 
-ghost use Rattle.std.specs.Prelude.{◌≡◌, ℕ, ◌<◌, ◌^◌, ◌++◌, [], ◌∷◌, length, map, Contains, IfOk, OnOk};
+ghost use Rattle.std.specs.Prelude.{◌≡◌, ℕ, ◌<◌, ◌^◌, ◌++◌, [], ◌∷◌, length, map, IfOk, OnOk};
 ghost use Rattle.gimple_ir.specs.Size.{size_of_program};
 ghost use Rattle.call_graph.specs.Addresses.{function_addresses, item_addresses};
 ghost use Rattle.call_graph.specs.Reached.{address_rows, longer_at, mentions_of};
@@ -21,7 +21,6 @@ pub fn mentions(alloc: Heap, program: &Checked) -> Result<Vec<Vec<u32>>, OutOfMe
     requires size { size_of_program program.now.program < 2 ^ 32 }
     ensures one_each { IfOk result (λ rows. length rows.items ≡ length program.now.program.functions) }
     ensures rows { IfOk result (λ rows. (a : ℕ) → row_at rows.items a ≡ mentions_of program.now.program a) }
-    ensures ends { IfOk result (λ rows. (a b : ℕ) → Contains (row_at rows.items a) b → b < length rows.items) }
 {
     let mut rows = address_rows(alloc, program)?;
     let edges = edges(alloc, program)?;

@@ -1,4 +1,5 @@
 use Rattle.std.proofs.Common.{◌≡◌, Bool, List, ℕ, map, length, sym, ◌∙◌, ap, subst, arith}
+use Rattle.std.specs.List.{Contains}
 use Rattle.gimple_ir.specs.declared.program.Function.{Function}
 use Rattle.gimple_ir.specs.declared.program.Program.{Program}
 use Rattle.gimple_core.specs.Run.{main_name}
@@ -6,7 +7,7 @@ use Rattle.call_graph.specs.Calls.{number_in}
 use Rattle.call_graph.specs.Graph.{AreMarks}
 use Rattle.call_graph.specs.Walk.{row_at}
 use Rattle.call_graph.specs.Reached.{AreReached, mentions_of}
-use Rattle.call_graph.proofs.Mentioning.{marks_reached}
+use Rattle.call_graph.proofs.Mentioning.{marks_reached, mention_of}
 use Rattle.call_graph.proofs.Callees.{accepted_calls}
 use Rattle.call_graph.proofs.reach.reached.Goals as goal
 
@@ -25,7 +26,11 @@ reached_in-requires-clause-root_small c =
     omega (arith, low, root, c.requires.few)
 
 pub reached_in-requires-clause-ends : goal.reached_in-requires-clause-ends
-reached_in-requires-clause-ends c = rw c.as_slice-2.ensures.value c.in_ok-rows.ensures.ends
+reached_in-requires-clause-ends c = λ a b h.
+    let p = c.args.program.now.program in
+    let row : row_at c.as_slice-2.result.now a ≡ mentions_of p a = ap (λ rows. row_at rows a) c.as_slice-2.ensures.value ∙ c.in_ok-rows.ensures.rows a in
+    let low = (mention_of p (accepted_calls p c.program.ensures.accepted) a b (subst (λ (xs : List ℕ). Contains xs b) row h)).inside in
+    omega (arith, low, c.in_ok-rows.ensures.one_each, ap length c.as_slice-2.ensures.value)
 
 pub returns : goal.returns
 returns c =
