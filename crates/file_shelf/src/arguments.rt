@@ -1,6 +1,6 @@
 //! The words of the command line.
 
-ghost use Rattle.std.specs.Prelude.{◌≡◌};
+ghost use Rattle.std.specs.Prelude.{◌≡◌, ◌⊎◌};
 
 use shelf::Text;
 use std::alloc::{AllocError, AllocFailed};
@@ -40,4 +40,17 @@ pub fn words(rt: &HostRuntime) -> Result<Vec<Text>, NoWords> {
         words.push(Text::from_bytes(rt.alloc(), argument.as_bytes())?)?;
     }
     Ok(words)
+}
+
+/// Prints a text on standard output. The status is 0, or 4 with a message where it cannot be written.
+pub fn show(rt: &HostRuntime, text: &str) -> u8
+    ensures { (result ≡ 0) ⊎ (result ≡ 4) }
+{
+    match rt.print(text) {
+        Ok(()) => 0,
+        Err(_) => {
+            let _ = rt.eprint("-: error: cannot write\n");
+            4
+        }
+    }
 }

@@ -4,5 +4,5 @@
 mod arguments;
 mod files;
 
-pub use arguments::{NoWords, words};
+pub use arguments::{NoWords, show, words};
 pub use files::FileShelf;

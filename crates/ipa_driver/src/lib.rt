@@ -25,5 +25,6 @@ pub use shelf::{Fail, Fetched, MemoryShelf, Shelf, Stored};
 pub use top::optimise_alone;
 pub use verdict::one_verdict;
 pub use words::{
-    Name, Options, RunOptions, SourceName, UsageFault, input_numbers, read_run_words, read_words,
+    Information, Name, Options, RunOptions, SourceName, UsageFault, asked_information, input_numbers,
+    read_run_words, read_words,
 };

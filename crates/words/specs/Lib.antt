@@ -8,3 +8,4 @@ pub mod Limits
 pub mod Twins
 pub mod Words
 pub mod RunWords
+pub mod Information

@@ -65,6 +65,23 @@ fn fault_text(rt: HostRuntime) -> Result<(), Fail> {
 }
 
 #[test]
+fn informations(rt: HostRuntime) -> Result<(), Fail> {
+    for (line, wanted) in [
+        ("--help", Some(Information::Help)),
+        ("--version", Some(Information::Version)),
+        ("--helps", None),
+        ("--version a.g", None),
+        ("", None),
+    ] {
+        assert!(rt;
+            asked_information(&texts(rt.alloc(), line)?) == wanted,
+            "{line}"
+        );
+    }
+    Ok(())
+}
+
+#[test]
 fn empty_words(rt: HostRuntime) -> Result<(), Fail> {
     let alloc = rt.alloc();
     let empty = Text::new(alloc);
