@@ -11,4 +11,3 @@ pub mod StepLemmas
 pub mod MachineLemmas
 pub mod RunLemmas
 pub mod Accepted
-pub mod ExampleLemmas

@@ -17,6 +17,3 @@ mod values;
 mod world;
 
 pub use interpreter::run;
-
-#[cfg(test)]
-mod tests;

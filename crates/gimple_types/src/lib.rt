@@ -11,8 +11,6 @@ mod refusal;
 mod scalars;
 mod statements;
 mod structs;
-#[cfg(test)]
-mod tests;
 
 pub use counts::is_countable;
 pub use gimple_core::{Site, TypeFault};

@@ -7,8 +7,6 @@ mod named_globals;
 mod named_locals;
 mod names;
 mod register_table;
-#[cfg(test)]
-mod tests;
 
 pub use labels::Labels;
 pub use named_functions::NamedFunctions;

@@ -3,7 +3,5 @@
 
 mod slots;
 mod structs;
-#[cfg(test)]
-mod tests;
 
 pub use structs::{Extent, Structs};

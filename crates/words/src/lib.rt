@@ -19,8 +19,3 @@ pub use options::{Name, Options, SourceName, UsageFault};
 pub use read::{name_bytes, read_words, usage_text};
 pub use run_options::RunOptions;
 pub use run_words::{input_numbers, read_run_words};
-
-#[cfg(test)]
-mod run_tests;
-#[cfg(test)]
-mod tests;
