@@ -1,5 +1,5 @@
 -- Which functions the numbers of addresses are of.
-use Rattle.std.proofs.Common.{◌≡◌, ℕ, ℤ, ◌<◌, ◌⊎◌, inl, inr, List, [], ◌∷◌, ◌++◌, Option, Some, None, refl, sym, ◌∙◌, ap, subst, append-nil}
+use Rattle.std.proofs.Common.{◌≡◌, ℕ, ℤ, inl, inr, List, [], ◌∷◌, ◌++◌, Option, Some, None, refl, sym, ◌∙◌, ap, subst, append-nil}
 use Rattle.std.specs.List.{Contains, flat_map, position}
 use Rattle.std.specs.Str.{bytes_eq}
 use Rattle.std.proofs.lemmas.List.Elements.{Contains-append_cases, Contains-append_left, Contains-append_right}
@@ -12,7 +12,7 @@ use Rattle.gimple_ir.specs.declared.program.Program.{Program}
 use Rattle.gimple_core.specs.Reach.{operands_of, operands_of_end, TakesAddress, MentionsInItems, AddressedIn, IsAddressed}
 use Rattle.call_graph.specs.Addresses.{number_listed, operand_address, addresses_in, body_addresses, block_addresses, function_addresses, item_addresses, addresses_of}
 use Rattle.graph_walk.proofs.Parting.{nothing, single, here}
-use Rattle.call_graph.proofs.Called.{no_member, member_here, member_later, member_cases, flat_made, flat_makes}
+use Rattle.call_graph.proofs.Called.{flat_made, flat_makes}
 
 -- the first function of this name stands at this number
 abbrev pub IsPlace : List Function → List ℕ → ℕ → Type 0

@@ -1,4 +1,4 @@
-use Rattle.std.proofs.Common.{sym, ◌∙◌, arith}
+use Rattle.std.proofs.Common.{sym, ◌∙◌}
 use Rattle.call_graph.proofs.Addressing.{address_pushed, address_left}
 use Rattle.call_graph.proofs.addresses.push_address.Goals as goal
 

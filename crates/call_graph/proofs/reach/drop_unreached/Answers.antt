@@ -1,5 +1,4 @@
-use Rattle.std.proofs.Common.{◌≡◌, ◌∙◌, sym, ap, subst}
-use Rattle.gimple_ir.specs.declared.program.Program.{Program}
+use Rattle.std.proofs.Common.{◌∙◌, sym, ap, subst}
 use Rattle.gimple_core.specs.Reach.{IsWithoutUnreached}
 use Rattle.gimple_core.specs.Sealed.{Sealed}
 use Rattle.gimple_core.proofs.KeptAccepted.{reached_accepted}
