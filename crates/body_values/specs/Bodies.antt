@@ -3,6 +3,7 @@ use Rattle.std.specs.Prelude.{ℕ, ◌+◌, ◌==◌, ◌&&◌, ◌||◌, not, �
 use Rattle.std.specs.List.{position_or_len, list_any}
 use Rattle.gimple_ir.specs.declared.scalar.Scalar.{Scalar}
 use Rattle.gimple_ir.specs.declared.scalar.Scalar.TheVariants.{I64, Ptr}
+use Rattle.gimple_ir.specs.declared.scalar.Mode.{Mode}
 use Rattle.gimple_ir.specs.declared.scalar.Op.{Op}
 use Rattle.gimple_ir.specs.declared.scalar.Cmp.{Cmp}
 use Rattle.gimple_ir.specs.declared.scalar.Cmp.TheVariants.{Eq, Ne, Lt, Le, Gt, Ge}
@@ -19,29 +20,29 @@ use Rattle.gimple_ir.specs.declared.value.LayoutSlot.{LayoutSlot}
 use Rattle.gimple_ir.specs.declared.value.Constant.{Constant}
 use Rattle.gimple_ir.specs.declared.value.Constant.TheVariants.{Int, Null as NullConstant, Global as GlobalConstant}
 use Rattle.gimple_ir.specs.declared.statement.Stmt.{Stmt}
-use Rattle.gimple_ir.specs.declared.statement.Stmt.TheVariants.{Copy, Arith, Compare, Convert, Load, Store, Call, Get, Put, Abort}
+use Rattle.gimple_ir.specs.declared.statement.Stmt.TheVariants.{Copy, Arith, Compare, Convert, Load, Store, Call, Indirect, Get, Put, Abort}
 use Rattle.gimple_ir.specs.declared.block.Case.{Case}
 use Rattle.gimple_ir.specs.declared.block.End.{End}
 use Rattle.gimple_ir.specs.declared.block.End.TheVariants.{Goto, If, Switch, Return}
 use Rattle.std.specs.Str.{bytes_eq}
 use Rattle.gimple_core.specs.Layout.{layout_of}
 use Rattle.gimple_core.specs.State.{offset_in}
-use Rattle.gimple_core.specs.Statements.{is_shift, is_add, is_slot_at}
+use Rattle.gimple_core.specs.Statements.{is_pointer, is_shift, is_add, is_slot_at}
 use Rattle.fix_engine.specs.declared.lifted.Lifted.{Lifted}
 use Rattle.fix_engine.specs.declared.lifted.Lifted.TheVariants.{NotReached, Reached}
 use Rattle.value_domain.specs.declared.abs_val.AbsVal.{AbsVal}
-use Rattle.value_domain.specs.ConstantOperators.{is_pointer}
 use Rattle.value_domain.specs.RangeOperators.{opposite}
 use Rattle.value_domain.specs.AbsOperators.{top_of, abs_op_of, abs_cmp_of, abs_convert_of, abs_met, refined_of, brought_into}
 use Rattle.value_domain.specs.Holding.{is_equality}
 use Rattle.value_domain.specs.Values.{is_none_val}
 use Rattle.value_domain.specs.AbsOperators.{exactly_of}
 
--- What the values in a body depend on: the program's structs and globals, the function's locals and registers with the
--- formals first, the limit of constants, the thresholds, and what is given of loads by block and index.
+-- What the values in a body depend on: the program's structs and globals and the mode of its arithmetic, the function's locals
+-- and registers with the formals first, the limit of constants, the thresholds, and what is given of loads by block and index.
 pub record Body : Type 0 where
   pub structs : List StructDef
   pub globals : List Global
+  pub mode : Mode
   pub locals : List Decl
   pub registers : List Register
   pub most : ℕ
@@ -78,7 +79,7 @@ is_local locals name = list_any (λ d. bytes_eq d.name name) locals
 abbrev pub global_place : List Global → List ℕ → Option ℕ
 global_place globals name = position (λ g. bytes_eq g.decl.name name) globals
 
--- the value of the address of a global; that of a local is no constant
+-- the value of the address of a global; that of a local or of a function is no constant
 abbrev pub global_value : Body → Scalar → Option ℕ → ℤ → AbsVal
 global_value B scalar None offset = top_of scalar
 global_value B scalar (Some k) offset = exactly_of scalar B.most B.ends (GlobalConstant k (offset_in offset))
@@ -106,7 +107,7 @@ is_lawful op scalar other = if is_pointer scalar then is_add op else not (is_poi
 
 unfoldable pub arith_value : Body → List AbsVal → Scalar → Scalar → Operand → Op → Operand → AbsVal
 arith_value B row scalar other left op right =
-    if is_lawful op scalar other then abs_op_of op scalar other B.most B.ends (operand_value B row scalar left) (operand_value B row other right) else top_of scalar
+    if is_lawful op scalar other then abs_op_of B.mode op scalar other B.most B.ends (operand_value B row scalar left) (operand_value B row other right) else top_of scalar
 
 -- the scalar of both sides of a comparison
 abbrev pub sides_scalar : Body → Operand → Operand → Scalar
@@ -133,16 +134,22 @@ convert_value B row target source from =
 
 -- ---- loads
 
+-- the address of a global; that of a function is no constant
+abbrev pub address_constant : Option ℕ → ℤ → Option Constant
+address_constant None offset = None
+address_constant (Some k) offset = Some (GlobalConstant k (offset_in offset))
+
 -- an item as a constant; without an item a slot has zero or null
-abbrev pub item_constant : List Global → Scalar → Option Operand → Constant
-item_constant globals scalar (Some (Number z)) = Int z
-item_constant globals scalar (Some (Address name offset)) = address_constant (global_place globals name)
-  where
-    address_constant : Option ℕ → Constant
-    address_constant None = NullConstant
-    address_constant (Some k) = GlobalConstant k (offset_in offset)
-item_constant globals scalar (Some x) = NullConstant
-item_constant globals scalar None = if is_pointer scalar then NullConstant else Int (pos 0)
+abbrev pub item_constant : List Global → Scalar → Option Operand → Option Constant
+item_constant globals scalar (Some (Number z)) = Some (Int z)
+item_constant globals scalar (Some (Address name offset)) = address_constant (global_place globals name) offset
+item_constant globals scalar (Some x) = Some NullConstant
+item_constant globals scalar None = Some (if is_pointer scalar then NullConstant else Int (pos 0))
+
+-- of what is no constant nothing is said here
+abbrev pub constant_value : Body → Scalar → Option Constant → Option AbsVal
+constant_value B scalar None = None
+constant_value B scalar (Some c) = Some (exactly_of scalar B.most B.ends c)
 
 -- the slot of this offset and scalar, among the slots of a variable
 abbrev pub slot_place : List LayoutSlot → ℤ → Scalar → Option ℕ
@@ -150,7 +157,7 @@ slot_place slots offset scalar = position (is_slot_at offset scalar) slots
 
 abbrev pub slot_value : Body → Scalar → Global → Option ℕ → Option AbsVal
 slot_value B scalar g None = None
-slot_value B scalar g (Some n) = Some (exactly_of scalar B.most B.ends (item_constant B.globals scalar (slice_get g.items n)))
+slot_value B scalar g (Some n) = constant_value B scalar (item_constant B.globals scalar (slice_get g.items n))
 
 abbrev pub constant_slot : Body → Scalar → ℤ → Option Global → Option AbsVal
 constant_slot B scalar offset None = None
@@ -183,6 +190,7 @@ target_of (Convert to scalar from) = Some to
 target_of (Load to scalar place) = Some to
 target_of (Store scalar place from) = None
 target_of (Call to callee arguments) = to
+target_of (Indirect to signature callee arguments) = to
 target_of (Get to) = Some to
 target_of (Put from) = None
 target_of Abort = None

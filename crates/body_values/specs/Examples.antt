@@ -38,7 +38,7 @@ abbrev pub count_function : Function
 count_function = record { name = main_name; params = []; result = Some I32; locals = []; registers = record { name = i; scalar = I32 } ∷ []; blocks = starting ∷ testing ∷ counting ∷ leaving ∷ [] }
 
 abbrev pub count_program : Program
-count_program = record { structs = []; globals = []; functions = count_function ∷ [] }
+count_program = record { profile = 1; structs = []; globals = []; functions = count_function ∷ [] }
 
 -- a program whose first function can be analysed, where it has no formals
 pub record IsExample (p : Program) : Type 0 where

@@ -1,5 +1,5 @@
 -- The system of equations whose least solution the values of a body are.
-use Rattle.std.specs.Prelude.{ℕ, ◌+◌, ◌==◌, ◌&&◌, ℤ, pos, Bool, if◌then◌else◌, List, [], ◌∷◌, ◌++◌, map, take, length, Option, Some, None, slice_get, find}
+use Rattle.std.specs.Prelude.{ℕ, ◌+◌, ◌==◌, ◌&&◌, ℤ, pos, Bool, if◌then◌else◌, List, [], ◌∷◌, ◌++◌, map, take, length, Option, Some, None, slice_get, find, position}
 use Rattle.std.specs.List.{list_any}
 use Rattle.gimple_ir.specs.declared.scalar.Scalar.{Scalar}
 use Rattle.gimple_ir.specs.declared.value.Constant.{Constant}
@@ -11,15 +11,14 @@ use Rattle.gimple_ir.specs.declared.block.End.TheVariants.{Goto, If, Switch, Ret
 use Rattle.gimple_ir.specs.declared.block.Block.{Block}
 use Rattle.gimple_ir.specs.declared.statement.Stmt.{Stmt}
 use Rattle.gimple_ir.specs.declared.program.Function.{Function}
-use Rattle.gimple_ir.specs.declared.program.Program.{Program}
-use Rattle.gimple_core.specs.Run.{block_place, place_or}
+use Rattle.gimple_core.specs.Sealed.{Sealed}
+use Rattle.gimple_core.specs.Statements.{is_pointer}
 use Rattle.fix_engine.specs.declared.lifted.Lifted.{Lifted}
 use Rattle.fix_engine.specs.declared.lifted.Lifted.TheVariants.{NotReached, Reached}
 use Rattle.fix_engine.specs.Lifted.{FitsLifted, lifted_below}
 use Rattle.fix_engine.specs.Rows.{FitsRows, rows_below}
 use Rattle.fix_engine.specs.Least.{Equations, IsLeast, IsSolution}
 use Rattle.value_domain.specs.declared.abs_val.AbsVal.{AbsVal}
-use Rattle.value_domain.specs.ConstantOperators.{is_pointer}
 use Rattle.value_domain.specs.Values.{FitsAbsVal, abs_val_below, is_none_val, kind_of}
 use Rattle.value_domain.specs.AbsOperators.{exactly_of}
 use Rattle.body_values.specs.declared.facts.Facts.{Facts}
@@ -41,10 +40,11 @@ abbrev pub given_load : List LoadFact → ℕ → ℕ → ℕ → Option AbsVal
 given_load loads n k i = fact_value (find (λ x. is_point x.point n k i) loads)
 
 -- the function of this number, with facts, a limit of constants and thresholds
-abbrev pub body_of : Program → ℕ → Function → Facts → ℕ → List ℤ → Body
+abbrev pub body_of : Sealed → ℕ → Function → Facts → ℕ → List ℤ → Body
 body_of p n f facts most ends = record {
-  structs = p.structs;
-  globals = p.globals;
+  structs = p.program.structs;
+  globals = p.program.globals;
+  mode = p.mode;
   locals = f.locals;
   registers = f.params ++ f.registers;
   most = most;
@@ -65,6 +65,15 @@ abbrev pub entry_row : Function → List AbsVal → ℕ → List ℤ → Lifted 
 entry_row f formals most ends = if list_any is_none_val formals then NotReached else Reached (formals ++ map (zero_value most ends) f.registers)
 
 -- ---- the edges
+
+-- the number of the first block of a label
+abbrev pub block_place : ℕ → List Block → Option ℕ
+block_place label blocks = position (λ b. b.label == label) blocks
+
+-- no program without a type fault has a label of no block
+abbrev pub place_or : Option ℕ → ℕ
+place_or None = 0
+place_or (Some k) = k
 
 -- the labels that an end leads to, in its branches' order
 abbrev pub labels_of : End → List ℕ
@@ -117,16 +126,16 @@ equations_of B blocks entry = record {
   flow = λ e x. along B blocks (slice_get (branches_of blocks) e) x;
 }
 
-abbrev pub system_of : Program → ℕ → Function → Facts → ℕ → List ℤ → Equations (Lifted (List AbsVal))
+abbrev pub system_of : Sealed → ℕ → Function → Facts → ℕ → List ℤ → Equations (Lifted (List AbsVal))
 system_of p n f facts most ends = equations_of (body_of p n f facts most ends) f.blocks (entry_row f facts.formals most ends)
 
 -- a solution, as values at the begin of each block
-abbrev pub Solves : Program → ℕ → Function → Facts → ℕ → List ℤ → List (Lifted (List AbsVal)) → Type 0
+abbrev pub Solves : Sealed → ℕ → Function → Facts → ℕ → List ℤ → List (Lifted (List AbsVal)) → Type 0
 Solves p n f facts most ends xs =
     IsSolution (FitsLifted (FitsRows FitsAbsVal) (length (f.params ++ f.registers) ∷ kind_of most ends)) (lifted_below (rows_below abs_val_below)) (system_of p n f facts most ends) xs
 
 -- the values at the begin of each block: the least solution
-abbrev pub AreValues : Program → ℕ → Function → Facts → ℕ → List ℤ → List (Lifted (List AbsVal)) → Type 0
+abbrev pub AreValues : Sealed → ℕ → Function → Facts → ℕ → List ℤ → List (Lifted (List AbsVal)) → Type 0
 AreValues p n f facts most ends xs =
     IsLeast (FitsLifted (FitsRows FitsAbsVal) (length (f.params ++ f.registers) ∷ kind_of most ends)) (lifted_below (rows_below abs_val_below)) (system_of p n f facts most ends) xs
 

@@ -5,6 +5,7 @@ use Rattle.gimple_ir.specs.declared.point.Point.{Point}
 use Rattle.gimple_ir.specs.declared.block.Block.{Block}
 use Rattle.gimple_ir.specs.declared.program.Function.{Function}
 use Rattle.gimple_ir.specs.declared.program.Program.{Program}
+use Rattle.gimple_core.specs.Sealed.{Sealed}
 use Rattle.fix_engine.specs.declared.lifted.Lifted.{Lifted}
 use Rattle.fix_engine.specs.declared.lifted.Lifted.TheVariants.{NotReached, Reached}
 use Rattle.value_domain.specs.declared.abs_val.AbsVal.{AbsVal}
@@ -57,7 +58,7 @@ point_row B blocks xs k i = if is_index (slice_get blocks k) i then values_at B 
 
 -- These are the values of a function of a program, from facts: those at the begins of blocks are the least solution of its
 -- system, and those at each point follow from them.
-pub record AreFound (p : Program) (n : ℕ) (f : Function) (facts : Facts) (limits : Limits) (t : Found) : Type 0 where
+pub record AreFound (p : Sealed) (n : ℕ) (f : Function) (facts : Facts) (limits : Limits) (t : Found) : Type 0 where
   pub begins : List (Lifted (List AbsVal))
   pub values : AreValues p n f facts limits.size limits.ends begins
   pub points : (k i : ℕ) → found_row t.rows k i ≡ point_row (body_of p n f facts limits.size limits.ends) f.blocks begins k i

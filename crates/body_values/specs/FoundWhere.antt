@@ -3,7 +3,7 @@ use Rattle.std.specs.Prelude.{◌≡◌, ℕ, true, List, is_some, ◌==◌, ◌
 use Rattle.std.specs.List.{list_any}
 use Rattle.gimple_ir.specs.declared.point.Point.{Point}
 use Rattle.gimple_ir.specs.declared.program.Function.{Function}
-use Rattle.gimple_ir.specs.declared.program.Program.{Program}
+use Rattle.gimple_core.specs.Sealed.{Sealed}
 use Rattle.std.specs.Str.{bytes_eq}
 use Rattle.fix_engine.specs.declared.lifted.Lifted.{Lifted}
 use Rattle.fix_engine.specs.declared.lifted.Lifted.TheVariants.{NotReached, Reached}
@@ -33,10 +33,10 @@ pub record IsKnownAt (t : Found) (at : Point) (name : List ℕ) : Type 0 where
 
 -- there a value is found
 abbrev pub FoundThere : Type 0
-FoundThere = (p : Program) (n : ℕ) (f : Function) (facts : Facts) (limits : Limits) (t : Found) → IsLawful limits.ends → FactsFit f facts limits.size limits.ends → AreFound p n f facts limits t → (at : Point) (name : List ℕ) →
+FoundThere = (p : Sealed) (n : ℕ) (f : Function) (facts : Facts) (limits : Limits) (t : Found) → IsLawful limits.ends → FactsFit f facts limits.size limits.ends → AreFound p n f facts limits t → (at : Point) (name : List ℕ) →
     IsKnownAt t at name → is_some (found_at t at name) ≡ true
 
 -- and nowhere else
 abbrev pub FoundThereAlone : Type 0
-FoundThereAlone = (p : Program) (n : ℕ) (f : Function) (facts : Facts) (limits : Limits) (t : Found) → IsLawful limits.ends → FactsFit f facts limits.size limits.ends → AreFound p n f facts limits t → (at : Point) (name : List ℕ) →
+FoundThereAlone = (p : Sealed) (n : ℕ) (f : Function) (facts : Facts) (limits : Limits) (t : Found) → IsLawful limits.ends → FactsFit f facts limits.size limits.ends → AreFound p n f facts limits t → (at : Point) (name : List ℕ) →
     is_some (found_at t at name) ≡ true → IsKnownAt t at name

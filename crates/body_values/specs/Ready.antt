@@ -31,11 +31,11 @@ loads_are most ts (x ∷ loads) h = (fits_is most ts x.value (and_left (fits_by 
 pub record Carried (s : Scene) : Type 0 where
   pub few : length s.globals.now < 2 ^ 32
   pub small : HasSmallGlobals s
-  pub ends : s.limits.now.ends ≡ thresholds_list s.program.now
+  pub ends : s.limits.now.ends ≡ thresholds_list s.program.now.program
   pub loads : loads_by s.limits.now.size s.limits.now.ends s.loads.now.facts ≡ true
 
 pub lawful_of : (s : Scene) → Carried s → IsLawful s.limits.now.ends
-lawful_of s c = subst IsLawful (sym c.ends) (list_lawful s.program.now)
+lawful_of s c = subst IsLawful (sym c.ends) (list_lawful s.program.now.program)
 
 pub ready_of : (s : Scene) → Carried s → IsReady s
 ready_of s c = record {

@@ -16,20 +16,19 @@ use Rattle.gimple_ir.specs.declared.declarations.Global.{Global}
 use Rattle.gimple_ir.specs.declared.value.Constant.{Constant}
 use Rattle.gimple_ir.specs.declared.value.Constant.TheVariants.{Int, Null as NullConstant, Global as GlobalConstant}
 use Rattle.gimple_ir.specs.declared.statement.Stmt.{Stmt}
-use Rattle.gimple_ir.specs.declared.statement.Stmt.TheVariants.{Copy, Arith, Compare, Convert, Load, Store, Call, Get, Put, Abort}
+use Rattle.gimple_ir.specs.declared.statement.Stmt.TheVariants.{Copy, Arith, Compare, Convert, Load, Store, Call, Indirect, Get, Put, Abort}
 use Rattle.gimple_ir.specs.declared.block.Case.{Case}
 use Rattle.gimple_ir.specs.declared.block.End.{End}
 use Rattle.gimple_ir.specs.declared.block.End.TheVariants.{Goto, If, Switch, Return}
 use Rattle.std.specs.Str.{bytes_eq}
 use Rattle.gimple_core.specs.Layout.{layout_of}
-use Rattle.gimple_core.specs.Statements.{is_shift, is_add}
+use Rattle.gimple_core.specs.Statements.{is_pointer, is_shift, is_add}
 use Rattle.gimple_core.specs.State.{offset_in}
 use Rattle.fix_engine.specs.Bools.{both}
 use Rattle.fix_engine.specs.Rows.{Each}
 use Rattle.fix_engine.specs.declared.lifted.Lifted.{Lifted}
 use Rattle.fix_engine.specs.declared.lifted.Lifted.TheVariants.{NotReached, Reached}
 use Rattle.value_domain.specs.declared.abs_val.AbsVal.{AbsVal}
-use Rattle.value_domain.specs.ConstantOperators.{is_pointer}
 use Rattle.value_domain.specs.RangeOperators.{opposite}
 use Rattle.value_domain.specs.AbsOperators.{top_of, abs_met, refined_of}
 use Rattle.value_domain.specs.Holding.{IsRight, IsAllowed, MayCompare, is_equality}
@@ -44,7 +43,7 @@ use Rattle.value_domain.proofs.AbsLaws.{op_fits, op_rises, cmp_fits, cmp_rises_a
 use Rattle.value_domain.proofs.MeetLaws.{meet_fits_all}
 use Rattle.value_domain.proofs.RefineLaws.{refine_fits}
 use Rattle.value_domain.proofs.RiseLaws.{meet_rises, refine_rises}
-use Rattle.body_values.specs.Bodies.{Body, place_of, register_scalar, put_value, brought_or, is_local, global_place, global_value, operand_value, count_scalar, right_scalar, is_lawful, arith_value, sides_scalar, may_compare, compare_value, source_scalar, convert_value, slot_place, slot_value, constant_slot, item_value, first_value, load_value, target_of, result_value, is_abort, after_target, after_stmt, where_reached, after_body, turned, register_of, left_sides, after_compare, without_cases, case_left, switch_left, after_switch, after_end}
+use Rattle.body_values.specs.Bodies.{Body, place_of, register_scalar, put_value, brought_or, is_local, global_place, global_value, operand_value, count_scalar, right_scalar, is_lawful, arith_value, sides_scalar, may_compare, compare_value, source_scalar, convert_value, item_constant, constant_value, slot_place, slot_value, constant_slot, item_value, first_value, load_value, target_of, result_value, is_abort, after_target, after_stmt, where_reached, after_body, turned, register_of, left_sides, after_compare, without_cases, case_left, switch_left, after_switch, after_end}
 use Rattle.body_values.specs.Rows.{RowFits, LiftedFits, row_below, reached_below, get_fits, set_fits, set_count, OptionBelow, get_below, set_below, below_self, none_above}
 
 -- ---- which operators there are
@@ -188,9 +187,9 @@ module _ (B : Body) (law : IsLawful B.ends) where
       let b = operand_rises x y r other right in
       by_test B.most B.ends scalar (is_lawful op scalar other) _ _ (top_of scalar)
       (λ h. let allowed = allowed_is B scalar op right h in record {
-        lower = op_fits B.most B.ends law op scalar other allowed _ _ a.lower.0 a.lower.1 b.lower.0 b.lower.1;
-        upper = op_fits B.most B.ends law op scalar other allowed _ _ a.upper.0 a.upper.1 b.upper.0 b.upper.1;
-        below = op_rises B.most B.ends law op scalar other allowed _ _ _ _ a.lower.0 a.lower.1 b.lower.0 b.lower.1 a.upper.0 a.upper.1 b.upper.0 b.upper.1 a.below b.below;
+        lower = op_fits B.most B.ends law B.mode op scalar other allowed _ _ a.lower.0 a.lower.1 b.lower.0 b.lower.1;
+        upper = op_fits B.most B.ends law B.mode op scalar other allowed _ _ a.upper.0 a.upper.1 b.upper.0 b.upper.1;
+        below = op_rises B.most B.ends law B.mode op scalar other allowed _ _ _ _ a.lower.0 a.lower.1 b.lower.0 b.lower.1 a.upper.0 a.upper.1 b.upper.0 b.upper.1 a.below b.below;
       })
       (top_fits B.most B.ends law scalar)
 
@@ -221,9 +220,13 @@ module _ (B : Body) (law : IsLawful B.ends) where
 
   -- ---- loads
 
+  constant_fits : (scalar : Scalar) (o : Option Constant) → IfSome (constant_value B scalar o) (IsGood B.most B.ends scalar)
+  constant_fits scalar None = tt
+  constant_fits scalar (Some c) = alone_fits B.most B.ends law scalar c
+
   slot_fits : (scalar : Scalar) (g : Global) (o : Option ℕ) → IfSome (slot_value B scalar g o) (IsGood B.most B.ends scalar)
   slot_fits scalar g None = tt
-  slot_fits scalar g (Some n) = alone_fits B.most B.ends law scalar _
+  slot_fits scalar g (Some n) = constant_fits scalar (item_constant B.globals scalar (slice_get g.items n))
 
   if_fits : (scalar : Scalar) (b : Bool) (o : Option AbsVal) → IfSome o (IsGood B.most B.ends scalar) → IfSome (cond b o None) (IsGood B.most B.ends scalar)
   if_fits scalar true o h = h
@@ -280,6 +283,7 @@ module _ (B : Body) (law : IsLawful B.ends) where
     result_rises k i x y r scalar (Load to from place) = plain from _ _ (stays B.most B.ends from (load_value B k i from place) (load_good k i from place))
     result_rises k i x y r scalar (Store from place v) = plain scalar _ _ (top_stays scalar)
     result_rises k i x y r scalar (Call to callee arguments) = plain scalar _ _ (top_stays scalar)
+    result_rises k i x y r scalar (Indirect to signature callee arguments) = plain scalar _ _ (top_stays scalar)
     result_rises k i x y r scalar (Get to) = plain scalar _ _ (top_stays scalar)
     result_rises k i x y r scalar (Put from) = plain scalar _ _ (top_stays scalar)
     result_rises k i x y r scalar Abort = plain scalar _ _ (top_stays scalar)

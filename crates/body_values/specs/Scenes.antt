@@ -18,6 +18,7 @@ abbrev pub body_in : Scene → Body
 body_in s = record {
   structs = s.structs.now;
   globals = s.globals.now;
+  mode = s.program.now.mode;
   locals = s.locals.now;
   registers = s.registers.now;
   most = s.limits.now.size;

@@ -7,6 +7,7 @@ use Rattle.gimple_ir.specs.declared.declarations.Register.{Register}
 use Rattle.gimple_ir.specs.declared.declarations.StructDef.{StructDef}
 use Rattle.gimple_ir.specs.declared.program.Function.{Function}
 use Rattle.gimple_ir.specs.declared.program.Program.{Program}
+use Rattle.gimple_core.specs.Sealed.{Sealed}
 use Rattle.gimple_core.specs.Accepted.{IsAccepted}
 use Rattle.gimple_ir.specs.Size.{size_of_function}
 use Rattle.fix_engine.specs.declared.lifted.Lifted.{Lifted}
@@ -35,7 +36,7 @@ pub record IsGiven (p : Program) (f : Function) (facts : Facts) (limits : Limits
   pub fit : FactsFit f facts limits.size limits.ends
 
 -- a scene of these parts
-pub record IsSceneBy (s : Scene) (p : Program) (structs : List StructDef) (globals : List Global) (locals : List Decl) (rs : List Register) (loads : GivenLoads) (limits : Limits) : Type 0 where
+pub record IsSceneBy (s : Scene) (p : Sealed) (structs : List StructDef) (globals : List Global) (locals : List Decl) (rs : List Register) (loads : GivenLoads) (limits : Limits) : Type 0 where
   pub program : s.program.now ≡ p
   pub known : s.structs.now ≡ structs
   pub named : s.globals.now ≡ globals
@@ -45,10 +46,10 @@ pub record IsSceneBy (s : Scene) (p : Program) (structs : List StructDef) (globa
   pub thresholds : s.limits.now ≡ limits
 
 -- what the code has is that of the function
-pub record IsSceneOf (s : Scene) (p : Program) (n : ℕ) (f : Function) (facts : Facts) (limits : Limits) : Type 0 where
+pub record IsSceneOf (s : Scene) (p : Sealed) (n : ℕ) (f : Function) (facts : Facts) (limits : Limits) : Type 0 where
   pub program : s.program.now ≡ p
-  pub structs : s.structs.now ≡ p.structs
-  pub globals : s.globals.now ≡ p.globals
+  pub structs : s.structs.now ≡ p.program.structs
+  pub globals : s.globals.now ≡ p.program.globals
   pub locals : s.locals.now ≡ f.locals
   pub registers : s.registers.now ≡ f.params ++ f.registers
   pub loads : s.loads.now ≡ record { facts = facts.loads; function = n }
@@ -65,10 +66,10 @@ pub record AreRows (B : Body) (blocks : List Block) (entry : Lifted (List AbsVal
   pub are : rows ≡ block_rows B 0 blocks begins
 
 -- these are the values of the function of this number, from some facts that fit
-pub record WereFound (p : Program) (n : ℕ) (t : Found) : Type 0 where
+pub record WereFound (p : Sealed) (n : ℕ) (t : Found) : Type 0 where
   pub function : Function
-  pub own : slice_get p.functions n ≡ Some function
+  pub own : slice_get p.program.functions n ≡ Some function
   pub facts : Facts
   pub fit : FactsFit function facts t.limits.size t.limits.ends
-  pub ends : t.limits.ends ≡ thresholds_list p
+  pub ends : t.limits.ends ≡ thresholds_list p.program
   pub are : AreFound p n function facts t.limits t

@@ -6,8 +6,7 @@ use Rattle.std.proofs.lemmas.Bool.{ltb-true}
 use Rattle.gimple_ir.specs.declared.declarations.Register.{Register}
 use Rattle.gimple_ir.specs.declared.block.Block.{Block}
 use Rattle.gimple_ir.specs.declared.program.Function.{Function}
-use Rattle.gimple_ir.specs.declared.program.Program.{Program}
-use Rattle.gimple_core.specs.Run.{block_place, place_or}
+use Rattle.gimple_core.specs.Sealed.{Sealed}
 use Rattle.fix_engine.specs.declared.lifted.Lifted.{Lifted}
 use Rattle.fix_engine.specs.declared.lifted.Lifted.TheVariants.{NotReached, Reached}
 use Rattle.fix_engine.specs.Lifted.{FitsLifted, lifted_below}
@@ -22,7 +21,7 @@ use Rattle.body_values.specs.declared.facts.Facts.{Facts}
 use Rattle.body_values.specs.declared.facts.LoadFact.{LoadFact}
 use Rattle.body_values.specs.Bodies.{Body, where_reached, after_end}
 use Rattle.body_values.specs.declared.branches.Branch.{Branch}
-use Rattle.body_values.specs.Flow.{is_point, fact_value, given_load, body_of, zero_constant, zero_value, entry_row, labels_of, branches_to, branches_from, branches_of, along_block, along, source_of, to_of, equations_of}
+use Rattle.body_values.specs.Flow.{is_point, fact_value, given_load, body_of, zero_constant, zero_value, entry_row, block_place, place_or, labels_of, branches_to, branches_from, branches_of, along_block, along, source_of, to_of, equations_of}
 use Rattle.body_values.specs.Rows.{LiftedFits, reached_below, each_append}
 use Rattle.body_values.specs.Rising.{FilesRise, LoadsFit, self, body_rises, end_rises}
 
@@ -184,5 +183,5 @@ entry_by f facts most ts law h false = record {
 pub entry_fits : (f : Function) (facts : Facts) (most : ℕ) (ts : List ℤ) → IsLawful ts → FactsFit f facts most ts → LiftedFits most ts (length (f.params ++ f.registers)) (entry_row f facts.formals most ts)
 entry_fits f facts most ts law h = entry_by f facts most ts law h (list_any is_none_val facts.formals)
 
-pub loads_fit : (p : Program) (n : ℕ) (f : Function) (facts : Facts) (most : ℕ) (ts : List ℤ) → FactsFit f facts most ts → LoadsFit (body_of p n f facts most ts)
+pub loads_fit : (p : Sealed) (n : ℕ) (f : Function) (facts : Facts) (most : ℕ) (ts : List ℤ) → FactsFit f facts most ts → LoadsFit (body_of p n f facts most ts)
 loads_fit p n f facts most ts h = λ k i. given_fits (FitsWith most ts) facts.loads n k i h.loads

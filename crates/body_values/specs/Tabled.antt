@@ -4,11 +4,12 @@ use Rattle.gimple_ir.specs.declared.declarations.Global.{Global}
 use Rattle.gimple_ir.specs.declared.declarations.StructDef.{StructDef}
 use Rattle.gimple_ir.specs.declared.program.Function.{Function}
 use Rattle.gimple_ir.specs.declared.program.Program.{Program}
+use Rattle.gimple_core.specs.Sealed.{Sealed}
 use Rattle.value_domain.specs.Thresholds.{thresholds_list}
 
--- a program, and how many constants a list has at most
+-- a program with the mode of its arithmetic, and how many constants a list has at most
 pub record Tabled : Type 0 where
-  pub program : Program
+  pub program : Sealed
   pub size : ℕ
 
 -- these are the program's structs, globals and functions, and its thresholds

@@ -1,8 +1,7 @@
 //! The branches of a function's blocks in order.
 
 ghost use Rattle.std.specs.Prelude.{◌≡◌, ◌<◌, ◌^◌, ◌++◌, ◌∷◌, [], length, map, IfOk, OnOk, IfSome};
-ghost use Rattle.gimple_core.specs.Run.{block_place, place_or};
-ghost use Rattle.body_values.specs.Flow.{labels_of, branches_to, branches_from, branches_of};
+ghost use Rattle.body_values.specs.Flow.{block_place, place_or, labels_of, branches_to, branches_from, branches_of};
 
 use crate::branches::Branch;
 use gimple_core::{Block, Case, End, OutOfMemory};

@@ -5,7 +5,7 @@ ghost use Rattle.std.specs.Option.{option_copied};
 ghost use Rattle.fix_engine.specs.declared.lifted.Lifted.{Lifted};
 ghost use Rattle.fix_engine.specs.declared.lifted.Lifted.TheVariants.{NotReached, Reached};
 ghost use Rattle.value_domain.specs.Values.{is_none_val};
-ghost use Rattle.body_values.specs.Bodies.{register_scalar, put_value, brought_or, item_constant, slot_place, slot_value, constant_slot, item_value, load_value, target_of, result_value, is_abort, after_target, after_stmt, after_body};
+ghost use Rattle.body_values.specs.Bodies.{register_scalar, put_value, brought_or, global_place, address_constant, item_constant, constant_value, slot_place, slot_value, constant_slot, item_value, load_value, target_of, result_value, is_abort, after_target, after_stmt, after_body};
 ghost use Rattle.body_values.specs.Flow.{given_load};
 ghost use Rattle.body_values.specs.Scenes.{body_in, Fit, IsGoodIn, IsReady};
 ghost use Rattle.gimple_core.specs.Layout.{layout_of};
@@ -14,7 +14,6 @@ use crate::scene::{Scene, offset_of, pointer, scalar_of};
 use fix_engine::Rows;
 use gimple_core::{
     Base, Constant, Global as Variable, Operand, OutOfMemory, Place, Point, Scalar, Stmt, Text,
-    bytes_eq,
 };
 use value_domain::{AbsVal, exactly, into_scalar, top};
 
@@ -51,6 +50,12 @@ pub fn target(statement: &Stmt) -> Option<&Text>
             callee: _,
             arguments: _,
         } => Some(to),
+        Stmt::Indirect {
+            to: Some(to),
+            signature: _,
+            callee: _,
+            arguments: _,
+        } => Some(to),
         Stmt::Get { to } => Some(to),
         _ => None,
     }
@@ -75,28 +80,52 @@ impl<'a> Scene<'a> {
         }
     }
 
-    fn item_of(&self, scalar: Scalar, item: Option<&Operand>) -> Constant
+    /// The address of a global; that of a function is no constant.
+    fn address_item(&self, variable: &Text, offset: i128) -> Option<Constant>
+        requires few { length self.now.globals.now < 2 ^ 32 }
+        ensures { result ≡ address_constant (global_place self.now.globals.now variable.now) offset }
+    {
+        match self.globals.place(variable) {
+            Some(number) => Some(Constant::Global {
+                number: number as u32,
+                offset: offset_of(offset),
+            }),
+            None => None,
+        }
+    }
+
+    /// An item as a constant, if it is one.
+    fn item_of(&self, scalar: Scalar, item: Option<&Operand>) -> Option<Constant>
         requires few { length self.now.globals.now < 2 ^ 32 }
         ensures { result ≡ item_constant self.now.globals.now scalar (option_copied item.entry) }
     {
         match item {
-            Some(Operand::Number(value)) => Constant::Int(*value),
-            Some(Operand::Address { variable, offset }) => {
-                match self.globals.place(variable) {
-                    Some(number) => Constant::Global {
-                        number: number as u32,
-                        offset: offset_of(*offset),
-                    },
-                    None => Constant::Null,
-                }
-            }
-            Some(_) => Constant::Null,
+            Some(Operand::Number(value)) => Some(Constant::Int(*value)),
+            Some(Operand::Address { variable, offset }) => self.address_item(variable, *offset),
+            Some(_) => Some(Constant::Null),
             None => {
                 if pointer(scalar) {
-                    Constant::Null
+                    Some(Constant::Null)
                 } else {
-                    Constant::Int(0)
+                    Some(Constant::Int(0))
                 }
+            }
+        }
+    }
+
+    fn value_of_item(
+        &self,
+        scalar: Scalar,
+        item: Option<&Operand>,
+    ) -> Result<Option<AbsVal>, OutOfMemory>
+        requires few { length self.now.globals.now < 2 ^ 32 }
+        ensures { IfOk result (λ v. v ≡ constant_value (body_in self.now) scalar (item_constant self.now.globals.now scalar (option_copied item.entry))) }
+    {
+        match self.item_of(scalar, item) {
+            None => Ok(None),
+            Some(constant) => {
+                let value = exactly(self.alloc, scalar, constant, self.limits)?;
+                Ok(Some(value))
             }
         }
     }
@@ -125,11 +154,7 @@ impl<'a> Scene<'a> {
         }
         match self.slot_number(scalar, place, global) {
             None => Ok(None),
-            Some(number) => {
-                let constant = self.item_of(scalar, global.items.get(number));
-                let value = exactly(self.alloc, scalar, constant, self.limits)?;
-                Ok(Some(value))
-            }
+            Some(number) => self.value_of_item(scalar, global.items.get(number)),
         }
     }
 

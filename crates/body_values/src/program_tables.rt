@@ -28,7 +28,7 @@ impl<'a> Model for ProgramTables<'a> {
 
     ghost Value = { Tabled };
 
-    ghost view = { λ t. record { program = t.program.now.program; size = t.limits.size } };
+    ghost view = { λ t. record { program = t.program.now; size = t.limits.size } };
 
     ghost invariant = { λ t. AreTables t.program.now.program t.structs t.globals t.functions t.limits.ends };
 }
@@ -41,7 +41,7 @@ impl<'a> ProgramTables<'a> {
         program: &'a Checked,
         limits: &Params,
     ) -> Result<ProgramTables<'a>, OutOfMemory>
-        ensures { IfOk result (λ t. t ≡ record { program = program.now.program; size = limits.now.ipa_cp_value_list_size }) }
+        ensures { IfOk result (λ t. t ≡ record { program = program.now; size = limits.now.ipa_cp_value_list_size }) }
     {
         let thresholds = thresholds_of(alloc, program, limits)?;
         let tables = ProgramTables::with(alloc, program, thresholds)?;
@@ -56,7 +56,7 @@ impl<'a> ProgramTables<'a> {
         limits: Thresholds,
     ) -> Result<ProgramTables<'a>, OutOfMemory>
         requires { limits.ends ≡ thresholds_list program.now.program }
-        ensures { IfOk result (λ t. t ≡ record { program = program.now.program; size = limits.size }) }
+        ensures { IfOk result (λ t. t ≡ record { program = program.now; size = limits.size }) }
     {
         let inside = program.program();
         let structs = Structs::of(alloc, inside.structs.as_slice())?;
@@ -71,24 +71,31 @@ impl<'a> ProgramTables<'a> {
         })
     }
 
-    /// The program.
+    /// The program, with the mode of its arithmetic.
+    pub fn checked(&self) -> &'a Checked
+        ensures { result.now ≡ self.now.program }
+    {
+        self.program
+    }
+
+    /// The program, to be read.
     pub fn program(&self) -> &'a Program
-        ensures same { result.now ≡ self.now.program }
-        ensures accepted { IsAccepted self.now.program }
+        ensures same { result.now ≡ self.now.program.program }
+        ensures accepted { IsAccepted self.now.program.program }
     {
         self.program.program()
     }
 
     /// The program's structs, each with where its fields lie.
     pub fn structs(&self) -> &Structs<'a>
-        ensures { result.now ≡ self.now.program.structs }
+        ensures { result.now ≡ self.now.program.program.structs }
     {
         &self.structs
     }
 
     /// The program's globals, each found by its name.
     pub fn globals(&self) -> &NamedGlobals<'a>
-        ensures { result.now ≡ self.now.program.globals }
+        ensures { result.now ≡ self.now.program.program.globals }
     {
         &self.globals
     }
@@ -96,7 +103,7 @@ impl<'a> ProgramTables<'a> {
     /// A copy of the thresholds. Err is want of memory.
     pub(crate) fn thresholds(&self) -> Result<Thresholds, OutOfMemory>
         ensures size { IfOk result (λ t. t.size ≡ self.now.size) }
-        ensures ends { IfOk result (λ t. t.ends ≡ thresholds_list self.now.program) }
+        ensures ends { IfOk result (λ t. t.ends ≡ thresholds_list self.now.program.program) }
     {
         let copy = self.limits.copy()?;
         Ok(copy)
@@ -104,7 +111,7 @@ impl<'a> ProgramTables<'a> {
 
     /// The first function of a name; None exactly where no function has it.
     pub fn named_function(&self, name: &Text) -> Option<&'a Function>
-        ensures { option_copied result ≡ find (λ f. bytes_eq f.name name.now) self.now.program.functions }
+        ensures { option_copied result ≡ find (λ f. bytes_eq f.name name.now) self.now.program.program.functions }
     {
         self.functions.named(name)
     }

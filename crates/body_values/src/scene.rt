@@ -3,22 +3,22 @@
 ghost use Rattle.std.specs.Prelude.{◌≡◌, ◌<◌, ◌^◌, length, IfOk, IsTrue};
 ghost use Rattle.gimple_core.specs.Operators.{in_scalar};
 ghost use Rattle.gimple_core.specs.State.{offset_in};
-ghost use Rattle.value_domain.specs.ConstantOperators.{is_pointer};
+ghost use Rattle.gimple_core.specs.Statements.{is_pointer};
 ghost use Rattle.body_values.specs.Bodies.{register_scalar, global_place, global_value, operand_value};
 ghost use Rattle.body_values.specs.Scenes.{body_in, Fit, IsGoodIn};
 
 use crate::load_table::LoadTable;
-use gimple_core::{Constant, Operand, OutOfMemory, Program, Scalar, Text, fits};
+use gimple_core::{Checked, Constant, Operand, OutOfMemory, Scalar, Text, fits};
 use name_tables::{NamedGlobals, NamedLocals, RegisterTable};
 use std::alloc::Global;
 use struct_tables::Structs;
 use value_domain::{AbsVal, Thresholds, exactly, into_scalar, top};
 
-/// What the values in a body depend on: the program, its structs and globals, the function's locals and registers with the formals
-/// first, the facts of its loads, and the thresholds.
+/// What the values in a body depend on: the program with the mode of its arithmetic, its structs and globals, the function's locals
+/// and registers with the formals first, the facts of its loads, and the thresholds.
 #[derive(Clone, Copy)]
 pub struct Scene<'a> {
-    pub program: &'a Program,
+    pub program: &'a Checked,
     pub structs: &'a Structs<'a>,
     pub globals: &'a NamedGlobals<'a>,
     pub locals: &'a NamedLocals<'a>,

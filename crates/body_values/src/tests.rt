@@ -128,6 +128,7 @@ fn count_program(alloc: Global) -> Result<Program, OutOfMemory>
     let mut functions = Functions::new(alloc);
     functions.push(count_function(alloc)?)?;
     Ok(Program {
+        profile: 1,
         structs: StructDefs::new(alloc),
         globals: Globals::new(alloc),
         functions,

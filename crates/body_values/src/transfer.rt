@@ -122,7 +122,17 @@ impl<'a> Scene<'a> {
         }
         let first = self.operand(row, scalar, left)?;
         let second = self.operand(row, other, right)?;
-        abs_op(self.alloc, op, scalar, other, &first, &second, self.limits)
+        let mode = self.program.mode();
+        abs_op(
+            self.alloc,
+            mode,
+            op,
+            scalar,
+            other,
+            &first,
+            &second,
+            self.limits,
+        )
     }
 
     /// The result of a comparison of values of a scalar.

@@ -22,7 +22,7 @@ use crate::load_table::LoadTable;
 use crate::program_tables::ProgramTables;
 use crate::scene::Scene;
 use fix_engine::{Lifted, Rows, Solver};
-use gimple_core::{Block, Checked, Function, Listed, OutOfMemory, Params, Point, Program, Text};
+use gimple_core::{Block, Checked, Function, Listed, OutOfMemory, Params, Point, Text};
 use name_tables::{NamedGlobals, NamedLocals, RegisterTable};
 use std::alloc::Global;
 use std::marker::Model;
@@ -193,7 +193,7 @@ fn rows_of<'a, S: Solver>(
 }
 
 fn scene_of<'a>(
-    program: &'a Program,
+    program: &'a Checked,
     structs: &'a Structs<'a>,
     globals: &'a NamedGlobals<'a>,
     locals: &'a NamedLocals<'a>,
@@ -218,7 +218,7 @@ fn scene_of<'a>(
 
 fn values_with<S: Solver>(
     alloc: Global,
-    program: &Program,
+    program: &Checked,
     structs: &Structs,
     globals: &NamedGlobals,
     number: u32,
@@ -227,9 +227,9 @@ fn values_with<S: Solver>(
     limits: Thresholds,
     solver: &mut S,
 ) -> Result<BodyValues, OutOfMemory>
-    requires given { IsGiven program.now function.now facts.now limits }
-    requires known { structs.now ≡ program.now.structs }
-    requires named { globals.now ≡ program.now.globals }
+    requires given { IsGiven program.now.program function.now facts.now limits }
+    requires known { structs.now ≡ program.now.program.structs }
+    requires named { globals.now ≡ program.now.program.globals }
     ensures { IfOk result (AreFound program.now number function.now facts.now limits) }
 {
     let registers = registers_of(alloc, function)?;
@@ -258,21 +258,22 @@ pub fn values_in<S: Solver>(
     facts: &Facts,
     solver: &mut S,
 ) -> Result<BodyValues, OutOfMemory>
-    requires function { function < length tables.now.program.functions }
-    requires globals { length tables.now.program.globals < 2 ^ 32 }
-    requires size { size_of_program tables.now.program < 2 ^ 32 }
-    requires branches { OfFunction tables.now.program function (λ f. branches_of_function f < 2 ^ 32) }
-    requires facts { OfFunction tables.now.program function (λ f. FactsFit f facts.now tables.now.size (thresholds_list tables.now.program)) }
-    ensures values { IfOk result (λ v. OfFunction tables.now.program function (λ f. AreFound tables.now.program function f facts.now (record { size = tables.now.size; ends = thresholds_list tables.now.program }) v)) }
+    requires function { function < length tables.now.program.program.functions }
+    requires globals { length tables.now.program.program.globals < 2 ^ 32 }
+    requires size { size_of_program tables.now.program.program < 2 ^ 32 }
+    requires branches { OfFunction tables.now.program.program function (λ f. branches_of_function f < 2 ^ 32) }
+    requires facts { OfFunction tables.now.program.program function (λ f. FactsFit f facts.now tables.now.size (thresholds_list tables.now.program.program)) }
+    ensures values { IfOk result (λ v. OfFunction tables.now.program.program function (λ f. AreFound tables.now.program function f facts.now (record { size = tables.now.size; ends = thresholds_list tables.now.program.program }) v)) }
     ensures found { IfOk result (WereFound tables.now.program function) }
 {
     let thresholds = tables.thresholds()?;
+    let checked = tables.checked();
     let program = tables.program();
     let structs = tables.structs();
     let globals = tables.globals();
     let of = &program.functions.as_slice()[function as usize];
     let values = values_with(
-        alloc, program, structs, globals, function, of, facts, thresholds, solver,
+        alloc, checked, structs, globals, function, of, facts, thresholds, solver,
     )?;
     Ok(values)
 }
@@ -293,8 +294,8 @@ pub fn values_of<S: Solver>(
     requires size { size_of_program program.now.program < 2 ^ 32 }
     requires branches { OfFunction program.now.program function (λ f. branches_of_function f < 2 ^ 32) }
     requires facts { OfFunction program.now.program function (λ f. FactsFit f facts.now limits.now.ipa_cp_value_list_size (thresholds_list program.now.program)) }
-    ensures values { IfOk result (λ v. OfFunction program.now.program function (λ f. AreFound program.now.program function f facts.now (record { size = limits.now.ipa_cp_value_list_size; ends = thresholds_list program.now.program }) v)) }
-    ensures found { IfOk result (WereFound program.now.program function) }
+    ensures values { IfOk result (λ v. OfFunction program.now.program function (λ f. AreFound program.now function f facts.now (record { size = limits.now.ipa_cp_value_list_size; ends = thresholds_list program.now.program }) v)) }
+    ensures found { IfOk result (WereFound program.now function) }
 {
     let tables = ProgramTables::new(alloc, program, limits)?;
     let values = values_in(alloc, &tables, function, facts, solver)?;
