@@ -1,6 +1,8 @@
 -- The branches of blocks, one after the other, and how many there are.
-use Rattle.std.proofs.Common.{◌≡◌, ℕ, zero, suc, ◌+◌, ◌<◌, ◌≤◌, ◌^◌, ◌==◌, List, [], ◌∷◌, ◌++◌, map, sum_by, Option, Some, None, IfSome, length, length-append, append_assoc, drop, get_or, refl, sym, ◌∙◌, ap, arith}
-use Rattle.std.specs.List.{position}
+use Rattle.std.proofs.Common.{◌≡◌, ℕ, zero, suc, ◌+◌, ◌<◌, ◌≤◌, ◌^◌, ◌==◌, Bool, true, false, not, cond, nat_lt, if◌then◌else◌, List, [], ◌∷◌, ◌++◌, map, sum_by, Option, Some, None, IfSome, length, length-append, append_assoc, drop, get_or, refl, sym, ◌∙◌, ap, arith}
+use Rattle.std.specs.List.{position, position_or_len}
+use Rattle.std.proofs.lemmas.Bool.{lt-ltb}
+use Rattle.std.proofs.lemmas.Option.{slice_get_within}
 use Rattle.std.proofs.lemmas.List.Quantifiers.{position-Some}
 use Rattle.std.proofs.lemmas.List.{drop_more, length-map}
 use Rattle.std.proofs.lemmas.List.Sums.{sum_by-cons}
@@ -10,10 +12,11 @@ use Rattle.gimple_ir.specs.declared.block.End.TheVariants.{Goto, If, Switch, Ret
 use Rattle.gimple_ir.specs.declared.block.Block.{Block}
 use Rattle.gimple_ir.specs.declared.program.Function.{Function}
 use Rattle.gimple_ir.specs.Size.{branches_of_end, branches_of_function}
-use Rattle.gimple_core.specs.Run.{block_place, place_or}
+use Rattle.gimple_core.specs.Run.{block_from, labelled as block_of}
+use Rattle.gimple_claims.proofs.Blocks.{number_in, label_at}
 use Rattle.name_tables.proofs.Naming.{position_map}
 use Rattle.body_values.specs.declared.branches.Branch.{Branch}
-use Rattle.body_values.specs.Flow.{labels_of, branches_to, branches_from, branches_of}
+use Rattle.body_values.specs.Flow.{block_place, place_or, labels_of, branches_to, branches_from, branches_of}
 
 pub row_count : (all : List Block) (k slot : ℕ) (ls : List ℕ) → length (branches_to all k slot ls) ≡ length ls
 row_count all k slot [] = refl
@@ -75,3 +78,22 @@ pub block_within : (blocks : List Block) (label : ℕ) (r : Option ℕ) → r �
 block_within blocks label None e = tt
 block_within [] label (Some k) e = cc
 block_within (b ∷ blocks) label (Some k) e = (position-Some (λ (b : Block). b.label == label) (b ∷ blocks) k b (sym e)).0
+
+from_place : (label n k : ℕ) (bs : List Block) (b : Block) → block_from label n bs ≡ Some (k, b) → n + position_or_len (λ (c : Block). c.label == label) bs ≡ k
+unfolding block_from
+from_place label n k [] b e = cc
+from_place label n k (c ∷ bs) b e = by (c.label == label) e (from_place label (n + 1) k bs b)
+  where
+    by : (t : Bool) → (if t then Some (n, c) else block_from label (n + 1) bs) ≡ Some (k, b) → (block_from label (n + 1) bs ≡ Some (k, b) → (n + 1) + position_or_len (λ (c : Block). c.label == label) bs ≡ k) →
+        n + cond (not t) (1 + position_or_len (λ (c : Block). c.label == label) bs) 0 ≡ k
+    by true f more = let pair : (n, c) ≡ (k, b) = cc in let same : n ≡ k = ap number_in pair in omega (arith, same)
+    by false f more = let rest = more f in omega (arith, rest)
+
+-- the block that a run finds by its label has this number
+pub label_place : (label k : ℕ) (bs : List Block) (b : Block) → block_of label bs ≡ Some (k, b) → place_or (block_place label bs) ≡ k
+label_place label k bs b e =
+    let here : 0 + position_or_len (λ (c : Block). c.label == label) bs ≡ k = from_place label 0 k bs b e in
+    let within : k < length bs = slice_get_within bs k b (label_at label k bs b e) in
+    let among : nat_lt (position_or_len (λ (c : Block). c.label == label) bs) (length bs) ≡ true = lt-ltb _ _ (omega (arith, here, within)) in
+    let same : position_or_len (λ (c : Block). c.label == label) bs ≡ k = omega (arith, here) in
+    ap (λ t. place_or (cond t (Some (position_or_len (λ (c : Block). c.label == label) bs)) None)) among ∙ same

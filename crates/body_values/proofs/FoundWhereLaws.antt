@@ -5,7 +5,7 @@ use Rattle.std.proofs.lemmas.Bool.{eqb-true, eq-eqb}
 use Rattle.gimple_ir.specs.declared.declarations.Register.{Register}
 use Rattle.gimple_ir.specs.declared.block.Block.{Block}
 use Rattle.gimple_ir.specs.declared.program.Function.{Function}
-use Rattle.gimple_ir.specs.declared.program.Program.{Program}
+use Rattle.gimple_core.specs.Sealed.{Sealed}
 use Rattle.std.specs.Str.{bytes_eq}
 use Rattle.fix_engine.specs.declared.lifted.Lifted.{Lifted}
 use Rattle.fix_engine.specs.declared.lifted.Lifted.TheVariants.{NotReached, Reached}
@@ -32,7 +32,7 @@ cond_fits : (P : Lifted (List AbsVal) → Type 0) (b : Bool) (x : Lifted (List A
 cond_fits P true x h g = h refl
 cond_fits P false x h g = g
 
-module _ (p : Program) (n : ℕ) (f : Function) (facts : Facts) (limits : Limits) (t : Found) (law : IsLawful limits.ends) (fit : FactsFit f facts limits.size limits.ends) (found : AreFound p n f facts limits t) where
+module _ (p : Sealed) (n : ℕ) (f : Function) (facts : Facts) (limits : Limits) (t : Found) (law : IsLawful limits.ends) (fit : FactsFit f facts limits.size limits.ends) (found : AreFound p n f facts limits t) where
   abbrev Fits : Lifted (List AbsVal) → Type 0
   Fits x = LiftedFits limits.size limits.ends (length (f.params ++ f.registers)) x
 

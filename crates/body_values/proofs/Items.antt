@@ -1,5 +1,5 @@
 -- What a read-only variable holds is in the value of its item.
-use Rattle.std.proofs.Common.{◌≡◌, ℕ, zero, suc, ◌+◌, ◌<◌, nat_lt, ℤ, pos, negsuc, Bool, true, false, cond, not, ◌&&◌, if◌then◌else◌, List, [], ◌∷◌, map, filter, length, refl, sym, ◌∙◌, ap, subst, Option, Some, None, IfSome, Result, Ok, Err, slice_get, unwrap_or, rules}
+use Rattle.std.proofs.Common.{◌≡◌, ℕ, zero, suc, ◌+◌, ◌<◌, nat_lt, ℤ, pos, negsuc, Bool, true, false, cond, not, ◌&&◌, if◌then◌else◌, List, [], ◌∷◌, map, filter, length, refl, sym, ◌∙◌, ap, subst, Option, Some, None, IfSome, Result, Ok, Err, slice_get, unwrap_or, rules, arith}
 use Rattle.std.specs.List.{find, position_or_len}
 use Rattle.std.proofs.lemmas.List.Folds.{find_at}
 use Rattle.std.proofs.lemmas.Bool.{eq-eqb}
@@ -13,6 +13,7 @@ use Rattle.gimple_ir.specs.declared.value.Object.TheVariants.{Global as GlobalOb
 use Rattle.gimple_ir.specs.declared.value.TrapKind.{TrapKind}
 use Rattle.gimple_ir.specs.declared.value.TrapKind.TheVariants.{Bounds}
 use Rattle.gimple_ir.specs.declared.value.LayoutSlot.{LayoutSlot}
+use Rattle.gimple_ir.specs.declared.value.Constant.{Constant}
 use Rattle.gimple_ir.specs.declared.value.Constant.TheVariants.{Int, Null as NullConstant, Global as GlobalConstant}
 use Rattle.gimple_ir.specs.declared.operand.Operand.{Operand}
 use Rattle.gimple_ir.specs.declared.operand.Operand.TheVariants.{Reg, Number as NumberOperand, Null, Address}
@@ -21,8 +22,7 @@ use Rattle.gimple_ir.specs.declared.operand.Base.TheVariants.{Reg as RegBase, Va
 use Rattle.gimple_ir.specs.declared.operand.Place.{Place}
 use Rattle.gimple_ir.specs.declared.declarations.Global.{Global}
 use Rattle.gimple_ir.specs.declared.program.Function.{Function}
-use Rattle.gimple_ir.specs.declared.program.Program.{Program}
-use Rattle.gimple_core.specs.declared.machine.Cell.{Cell}
+use Rattle.gimple_core.specs.Sealed.{Sealed}
 use Rattle.gimple_core.specs.declared.machine.MemorySlot.{MemorySlot}
 use Rattle.gimple_core.specs.declared.machine.Extent.{Extent}
 use Rattle.gimple_core.specs.declared.machine.FoundSlot.{FoundSlot}
@@ -30,7 +30,7 @@ use Rattle.std.specs.Str.{bytes_eq}
 use Rattle.gimple_core.specs.Layout.{layout_of}
 use Rattle.gimple_core.specs.Operators.{in_scalar}
 use Rattle.gimple_core.specs.Memory.{Memory, same_object, moved_by, is_slot, found_slot, found_offset, found_extent, found_at}
-use Rattle.gimple_core.specs.State.{Scope, zero_of, number_in, offset_in}
+use Rattle.gimple_core.specs.State.{Scope, registers_of, zero_of, number_in, offset_in, is_of}
 use Rattle.gimple_core.specs.Run.{filled, item_value as run_item, place_value, base_value, address_of, address_of_global, global_address}
 use Rattle.gimple_core.specs.Verdict.{demand, found}
 use Rattle.gimple_core.specs.Env.{variable}
@@ -40,14 +40,14 @@ use Rattle.gimple_core.proofs.ScalarLemmas.{same_scalar_true}
 use Rattle.gimple_claims.specs.Laws.{HoldsGlobal, slots_of}
 use Rattle.gimple_claims.specs.Checks.{env_of}
 use Rattle.value_domain.specs.declared.abs_val.AbsVal.{AbsVal}
-use Rattle.value_domain.specs.ConstantOperators.{is_pointer}
+use Rattle.gimple_core.specs.Statements.{is_pointer}
 use Rattle.value_domain.specs.Thresholds.{IsLawful}
-use Rattle.value_domain.specs.Holding.{Holds, constant_of, value_of_scalar}
+use Rattle.value_domain.specs.Holding.{Holds, constant_of}
 use Rattle.value_domain.proofs.AloneLaws.{alone_holds}
 use Rattle.body_values.specs.declared.facts.Facts.{Facts}
-use Rattle.body_values.specs.Bodies.{Body, is_local, global_place, item_constant, slot_place, slot_value, constant_slot, item_value}
+use Rattle.body_values.specs.Bodies.{Body, is_local, global_place, address_constant, item_constant, constant_value, slot_place, slot_value, constant_slot, item_value}
 use Rattle.body_values.specs.Flow.{body_of}
-use Rattle.body_values.proofs.Held.{onward}
+use Rattle.body_values.proofs.Held.{place_found}
 use Rattle.body_values.proofs.Operands.{from_begin, local_free}
 
 -- ---- what an access finds
@@ -110,6 +110,9 @@ both_true false b e = cc
 abbrev item_or : List Value → ℕ → Scalar → Value
 item_or vs n scalar = unwrap_or (slice_get vs n) (zero_of scalar)
 
+onward : {X : Type 0} (x : X) (xs : List X) (n : ℕ) → slice_get (x ∷ xs) (1 + n) ≡ slice_get xs n
+onward x xs n = let e : 1 + n ≡ suc n = omega arith in ap (slice_get (x ∷ xs)) e
+
 find_filled : (k m : ℕ) (scalar : Scalar) (ls : List LayoutSlot) (vs : List Value) (y : MemorySlot) → find (is_slot (GlobalObject k) m scalar) (filled (GlobalObject k) ls vs) ≡ Some y → y.value ≡ item_or vs (position_or_len (s.is_slot_at (pos m) scalar) ls) scalar
 find_filled k m scalar [] vs y e = cc
 find_filled k m scalar (l ∷ ls) [] y e = by (s.is_slot_at (pos m) scalar l) refl (find_filled k m scalar ls [] y) (subst (λ b. cond b (Some made) (find (is_slot (GlobalObject k) m scalar) (filled (GlobalObject k) ls [])) ≡ Some y) (passed _ _ _ (same_self k)) e)
@@ -149,30 +152,27 @@ zero_is U32 = refl
 zero_is U64 = refl
 zero_is Ptr = refl
 
-address_is : (globals : List Global) (scalar : Scalar) (name : List ℕ) (offset : ℤ) → constant_of (moved_by (address_of_global globals name) (offset_in offset)) ≡ Some (item_constant globals scalar (Some (Address name offset)))
-unfolding address_of_global moved_by
-address_is globals scalar name offset = by (global_place globals name) refl
-  where
-    by : (o : Option ℕ) → global_place globals name ≡ o → constant_of (moved_by (global_address (global_place globals name)) (offset_in offset)) ≡ Some (item_constant globals scalar (Some (Address name offset)))
-    by None e = rw e refl
-    by (Some k) e = rw e (ap (λ z. Some (GlobalConstant k z)) (from_begin offset))
+address_by : (name : List ℕ) (offset : ℤ) (o : Option ℕ) → constant_of (moved_by (global_address name o) (offset_in offset)) ≡ address_constant o offset
+unfolding moved_by
+address_by name offset None = refl
+address_by name offset (Some k) = ap (λ z. Some (GlobalConstant k z)) (from_begin offset)
 
-constant_is : (globals : List Global) (scalar : Scalar) (x : Operand) → constant_of (run_item globals x) ≡ Some (item_constant globals scalar (Some x))
+address_is : (globals : List Global) (name : List ℕ) (offset : ℤ) → constant_of (moved_by (address_of_global globals name) (offset_in offset)) ≡ address_constant (global_place globals name) offset
+unfolding address_of_global
+address_is globals name offset = address_by name offset (global_place globals name)
+
+constant_is : (globals : List Global) (scalar : Scalar) (x : Operand) → constant_of (run_item globals x) ≡ item_constant globals scalar (Some x)
 constant_is globals scalar (Reg name) = refl
 constant_is globals scalar (NumberOperand z) = refl
 constant_is globals scalar Null = refl
-constant_is globals scalar (Address name offset) = address_is globals scalar name offset
+constant_is globals scalar (Address name offset) = address_is globals name offset
 
-item_is : (globals : List Global) (scalar : Scalar) (xs : List Operand) (j : ℕ) → constant_of (item_or (map (run_item globals) xs) j scalar) ≡ Some (item_constant globals scalar (slice_get xs j))
+item_is : (globals : List Global) (scalar : Scalar) (xs : List Operand) (j : ℕ) → constant_of (item_or (map (run_item globals) xs) j scalar) ≡ item_constant globals scalar (slice_get xs j)
 item_is globals scalar [] j = zero_is scalar
 item_is globals scalar (x ∷ xs) zero = constant_is globals scalar x
 item_is globals scalar (x ∷ xs) (suc j) = item_is globals scalar xs j
 
 -- ---- an access to a read-only variable by name
-
-place_found : (b : Bool) (n i : ℕ) → cond b (Some n) None ≡ Some i → n ≡ i
-place_found true n i h = cc
-place_found false n i h = cc
 
 within_by : (z : ℤ) (b : Bool) → in_scalar I64 z ≡ b → b ≡ true → (if b then z else pos 0) ≡ z
 within_by z true e f = refl
@@ -182,27 +182,31 @@ offset_same : (z : ℤ) → in_scalar I64 z ≡ true → offset_in z ≡ z
 unfolding number_in
 offset_same z e = within_by z (in_scalar I64 z) refl e
 
-module _ (p : Program) (n : ℕ) (f : Function) (facts : Facts) (most : ℕ) (ts : List ℤ) (law : IsLawful ts) (serial : ℕ) (cells : List Cell) (memory : Memory)
-    (hold : (k : ℕ) (g : Global) → slice_get p.globals k ≡ Some g → HoldsGlobal p k g memory) where
+module _ (p : Sealed) (n : ℕ) (f : Function) (facts : Facts) (most : ℕ) (ts : List ℤ) (law : IsLawful ts) (serial : ℕ) (values : List Value) (memory : Memory)
+    (hold : (k : ℕ) (g : Global) → slice_get p.program.globals k ≡ Some g → HoldsGlobal p.program k g memory) where
   abbrev B : Body
   B = body_of p n f facts most ts
 
   abbrev scope : Scope
-  scope = record { locals = f.locals; serial = serial }
+  scope = record { declared = registers_of f; locals = f.locals; serial = serial }
 
-  place_of_global : (name : List ℕ) (g : Global) → find (λ (g : Global). bytes_eq g.decl.name name) p.globals ≡ Some g → (k : ℕ) × (slice_get p.globals k ≡ Some g) × (global_place p.globals name ≡ Some k)
+  constant_holds : (scalar : Scalar) (v : Value) (o : Option Constant) → is_of scalar v ≡ true → constant_of v ≡ o → IfSome (constant_value B scalar o) (Holds v)
+  constant_holds scalar v None typed e = tt
+  constant_holds scalar v (Some c) typed e = alone_holds most ts law scalar v c typed e
+
+  place_of_global : (name : List ℕ) (g : Global) → find (λ (g : Global). bytes_eq g.decl.name name) p.program.globals ≡ Some g → (k : ℕ) × (slice_get p.program.globals k ≡ Some g) × (global_place p.program.globals name ≡ Some k)
   place_of_global name g e =
-      let there : slice_get p.globals (position_or_len (λ (g : Global). bytes_eq g.decl.name name) p.globals) ≡ Some g = sym (find_at (λ (g : Global). bytes_eq g.decl.name name) p.globals) ∙ e in
-      let within : position_or_len (λ (g : Global). bytes_eq g.decl.name name) p.globals < length p.globals = slice_get_within p.globals _ g there in
-      (position_or_len (λ (g : Global). bytes_eq g.decl.name name) p.globals, there, search (rules, within))
+      let there : slice_get p.program.globals (position_or_len (λ (g : Global). bytes_eq g.decl.name name) p.program.globals) ≡ Some g = sym (find_at (λ (g : Global). bytes_eq g.decl.name name) p.program.globals) ∙ e in
+      let within : position_or_len (λ (g : Global). bytes_eq g.decl.name name) p.program.globals < length p.program.globals = slice_get_within p.program.globals _ g there in
+      (position_or_len (λ (g : Global). bytes_eq g.decl.name name) p.program.globals, there, search (rules, within))
 
-  slot_holds : (k : ℕ) (g : Global) (scalar : Scalar) (offset : ℤ) (x : FoundSlot) → slice_get p.globals k ≡ Some g → g.constant ≡ true → found_at memory (At (GlobalObject k) offset) scalar ≡ Ok x → value_of_scalar scalar x.value ≡ true →
-      (o : Option ℕ) → slot_place (layout_of p.structs g.decl).slots offset scalar ≡ o → IfSome (slot_value B scalar g o) (Holds x.value)
+  slot_holds : (k : ℕ) (g : Global) (scalar : Scalar) (offset : ℤ) (x : FoundSlot) → slice_get p.program.globals k ≡ Some g → g.constant ≡ true → found_at memory (At (GlobalObject k) offset) scalar ≡ Ok x → is_of scalar x.value ≡ true →
+      (o : Option ℕ) → slot_place (layout_of p.program.structs g.decl).slots offset scalar ≡ o → IfSome (slot_value B scalar g o) (Holds x.value)
   slot_holds k g scalar offset x e c found typed None o = tt
   slot_holds k g scalar offset x e c found typed (Some j) o =
       let y : Slotted memory.slots (GlobalObject k) offset scalar x = slotted memory (GlobalObject k) offset scalar x found in
-      let ls : List LayoutSlot = (layout_of p.structs g.decl).slots in
-      let vs : List Value = map (run_item p.globals) g.items in
+      let ls : List LayoutSlot = (layout_of p.program.structs g.decl).slots in
+      let vs : List Value = map (run_item p.program.globals) g.items in
       let kept : find (is_slot (GlobalObject k) y.offset scalar) (slots_of k memory) ≡ Some y.slot =
       find_kept (is_slot (GlobalObject k) y.offset scalar) (λ (z : MemorySlot). same_object z.object (GlobalObject k)) (λ z t. first_true _ _ _ t) memory.slots ∙ y.there in
       let mine : find (is_slot (GlobalObject k) y.offset scalar) (filled (GlobalObject k) ls vs) ≡ Some y.slot = subst (λ zs. find (is_slot (GlobalObject k) y.offset scalar) zs ≡ Some y.slot) ((hold k g e).items c) kept in
@@ -210,35 +214,35 @@ module _ (p : Program) (n : ℕ) (f : Function) (facts : Facts) (most : ℕ) (ts
       let place : slot_place ls (pos y.offset) scalar ≡ Some j = subst (λ z. slot_place ls z scalar ≡ Some j) y.is o in
       let number : position_or_len (s.is_slot_at (pos y.offset) scalar) ls ≡ j = place_found _ _ j place in
       let whole : x.value ≡ item_or vs j scalar = sym y.value ∙ (value ∙ ap (λ m. item_or vs m scalar) number) in
-      alone_holds most ts law scalar x.value (item_constant p.globals scalar (slice_get g.items j)) typed (ap constant_of whole ∙ item_is p.globals scalar g.items j)
+      constant_holds scalar x.value (item_constant p.program.globals scalar (slice_get g.items j)) typed (ap constant_of whole ∙ item_is p.program.globals scalar g.items j)
 
-  variable_holds : (name : List ℕ) (scalar : Scalar) (offset : ℤ) (x : FoundSlot) → is_local f.locals name ≡ false → in_scalar I64 offset ≡ true → found_at memory (moved_by (address_of p.globals scope name) (offset_in offset)) scalar ≡ Ok x → value_of_scalar scalar x.value ≡ true →
-      (o : Option Global) → find (λ (g : Global). bytes_eq g.decl.name name) p.globals ≡ o → IfSome (constant_slot B scalar offset o) (Holds x.value)
+  variable_holds : (name : List ℕ) (scalar : Scalar) (offset : ℤ) (x : FoundSlot) → is_local f.locals name ≡ false → in_scalar I64 offset ≡ true → found_at memory (moved_by (address_of p.program.globals scope name) (offset_in offset)) scalar ≡ Ok x → is_of scalar x.value ≡ true →
+      (o : Option Global) → find (λ (g : Global). bytes_eq g.decl.name name) p.program.globals ≡ o → IfSome (constant_slot B scalar offset o) (Holds x.value)
   unfolding address_of_global moved_by
   variable_holds name scalar offset x free inside found typed None e = tt
   variable_holds name scalar offset x free inside found typed (Some g) e =
       let there = place_of_global name g e in
-      let address : address_of p.globals scope name ≡ At (GlobalObject there.0) (pos 0) = local_free p.globals scope name free ∙ ap global_address there.2 in
-      let moved : moved_by (address_of p.globals scope name) (offset_in offset) ≡ At (GlobalObject there.0) offset =
+      let address : address_of p.program.globals scope name ≡ At (GlobalObject there.0) (pos 0) = local_free p.program.globals scope name free ∙ ap (global_address name) there.2 in
+      let moved : moved_by (address_of p.program.globals scope name) (offset_in offset) ≡ At (GlobalObject there.0) offset =
       ap (λ v. moved_by v (offset_in offset)) address ∙ (ap (λ z. At (GlobalObject there.0) z) (from_begin offset) ∙ ap (λ z. At (GlobalObject there.0) z) (offset_same offset inside)) in
       let mine : found_at memory (At (GlobalObject there.0) offset) scalar ≡ Ok x = subst (λ v. found_at memory v scalar ≡ Ok x) moved found in
       by there.0 there.1 g.constant refl mine
     where
-      by : (k : ℕ) → slice_get p.globals k ≡ Some g → (b : Bool) → g.constant ≡ b → found_at memory (At (GlobalObject k) offset) scalar ≡ Ok x → IfSome (cond b (slot_value B scalar g (slot_place (layout_of p.structs g.decl).slots offset scalar)) None) (Holds x.value)
-      by k at true c m = slot_holds k g scalar offset x at c m typed (slot_place (layout_of p.structs g.decl).slots offset scalar) refl
+      by : (k : ℕ) → slice_get p.program.globals k ≡ Some g → (b : Bool) → g.constant ≡ b → found_at memory (At (GlobalObject k) offset) scalar ≡ Ok x → IfSome (cond b (slot_value B scalar g (slot_place (layout_of p.program.structs g.decl).slots offset scalar)) None) (Holds x.value)
+      by k at true c m = slot_holds k g scalar offset x at c m typed (slot_place (layout_of p.program.structs g.decl).slots offset scalar) refl
       by k at false c m = tt
 
   unless_local : (name : List ℕ) (o : Option AbsVal) (v : Value) (b : Bool) → is_local f.locals name ≡ b → (is_local f.locals name ≡ false → IfSome o (Holds v)) → IfSome (cond b None o) (Holds v)
   unless_local name o v true e h = tt
   unless_local name o v false e h = h e
 
-  pub item_holds : (scalar : Scalar) (place : Place) (x : FoundSlot) → found_at memory (place_value p.globals scope cells place) scalar ≡ Ok x → s.place (env_of p f) scalar place ≡ Ok tt → value_of_scalar scalar x.value ≡ true → IfSome (item_value B scalar place) (Holds x.value)
+  pub item_holds : (scalar : Scalar) (place : Place) (x : FoundSlot) → found_at memory (place_value p.program.globals scope values place) scalar ≡ Ok x → s.place (env_of p.program f) scalar place ≡ Ok tt → is_of scalar x.value ≡ true → IfSome (item_value B scalar place) (Holds x.value)
   unfolding item_value s.place_at
   item_holds scalar place x got e typed = by place.base got e
     where
-      by : (b : Base) → found_at memory (moved_by (base_value p.globals scope cells b) (offset_in place.offset)) scalar ≡ Ok x → s.place_at (env_of p f) scalar b place.offset ≡ Ok tt → IfSome (item_value B scalar (record place { base = b })) (Holds x.value)
+      by : (b : Base) → found_at memory (moved_by (base_value p.program.globals scope values b) (offset_in place.offset)) scalar ≡ Ok x → s.place_at (env_of p.program f) scalar b place.offset ≡ Ok tt → IfSome (item_value B scalar (record place { base = b })) (Holds x.value)
       by (RegBase name) g h = tt
       by (Variable name) g h =
-          let a = first_passed (found (variable (env_of p f) name) 1) _ tt h in
+          let a = first_passed (found (variable (env_of p.program f) name) 1) _ tt h in
           let c = first_passed (demand (in_scalar I64 place.offset) 13) _ tt a.2 in
-          unless_local name _ x.value (is_local f.locals name) refl (λ free. variable_holds name scalar place.offset x free (demanded _ 13 c.1) g typed (find (λ (g : Global). bytes_eq g.decl.name name) p.globals) refl)
+          unless_local name _ x.value (is_local f.locals name) refl (λ free. variable_holds name scalar place.offset x free (demanded _ 13 c.1) g typed (find (λ (g : Global). bytes_eq g.decl.name name) p.program.globals) refl)

@@ -15,6 +15,7 @@ use Rattle.gimple_ir.specs.declared.program.Function.{Function}
 use Rattle.gimple_ir.specs.declared.program.Program.{Program}
 use Rattle.gimple_core.specs.Layout.{layout_of}
 use Rattle.std.specs.Str.{bytes_eq}
+use Rattle.gimple_core.specs.Sealed.{Sealed}
 use Rattle.gimple_core.specs.Accepted.{IsAccepted}
 use Rattle.gimple_ir.specs.Size.{size_of_block, size_of_function, size_of_program, branches_of_function}
 use Rattle.fix_engine.specs.Bools.{both}
@@ -54,8 +55,8 @@ abbrev AreSmall : List StructDef → List Global → Type 0
 AreSmall structs globals = (name : List ℕ) (g : Global) → find (λ g. bytes_eq g.decl.name name) globals ≡ Some g → (layout_of structs g.decl).size ≤ 2 ^ 24
 
 -- a scene of the function's parts
-pub scene_is : (s : Scene) (p : Program) (n : ℕ) (f : Function) (facts : Facts) (limits : Limits) (structs : List StructDef) (globals : List Global) (locals slots : List Decl) (rs : List Register) (loads : GivenLoads) (given : List LoadFact) → IsSceneBy s p structs globals locals rs loads limits →
-    structs ≡ p.structs → globals ≡ p.globals → locals ≡ slots → slots ≡ f.locals → rs ≡ f.params ++ f.registers → loads ≡ record { facts = given; function = n } → given ≡ facts.loads → IsSceneOf s p n f facts limits
+pub scene_is : (s : Scene) (p : Sealed) (n : ℕ) (f : Function) (facts : Facts) (limits : Limits) (structs : List StructDef) (globals : List Global) (locals slots : List Decl) (rs : List Register) (loads : GivenLoads) (given : List LoadFact) → IsSceneBy s p structs globals locals rs loads limits →
+    structs ≡ p.program.structs → globals ≡ p.program.globals → locals ≡ slots → slots ≡ f.locals → rs ≡ f.params ++ f.registers → loads ≡ record { facts = given; function = n } → given ≡ facts.loads → IsSceneOf s p n f facts limits
 scene_is s p n f facts limits structs globals locals slots rs loads given h z a b c d e g = record {
   program = h.program;
   structs = h.known ∙ z;
@@ -66,20 +67,20 @@ scene_is s p n f facts limits structs globals locals slots rs loads given h z a 
   thresholds = h.thresholds;
 }
 
-pub carried_of : (s : Scene) (p : Program) (n : ℕ) (f : Function) (facts : Facts) (limits : Limits) → IsSceneOf s p n f facts limits → IsGiven p f facts limits → Carried s
+pub carried_of : (s : Scene) (p : Sealed) (n : ℕ) (f : Function) (facts : Facts) (limits : Limits) → IsSceneOf s p n f facts limits → IsGiven p.program f facts limits → Carried s
 carried_of s p n f facts limits h g =
     let loads : loads_by s.limits.now.size s.limits.now.ends s.loads.now.facts ≡ loads_by limits.size limits.ends facts.loads = λ i. loads_by (h.thresholds i).size (h.thresholds i).ends (h.loads i).facts in
     record {
       few = subst (λ (gs : List Global). length gs < 2 ^ 32) (sym h.globals) g.globals;
-      small = subst (λ (gs : List Global). AreSmall s.structs.now gs) (sym h.globals) (subst (λ (ss : List StructDef). AreSmall ss p.globals) (sym h.structs) (λ name x e. (global_layout p g.accepted name x e).size));
-      ends = ap (λ (l : Limits). l.ends) h.thresholds ∙ (g.ends ∙ ap thresholds_list (sym h.program));
+      small = subst (λ (gs : List Global). AreSmall s.structs.now gs) (sym h.globals) (subst (λ (ss : List StructDef). AreSmall ss p.program.globals) (sym h.structs) (λ name x e. (global_layout p.program g.accepted name x e).size));
+      ends = ap (λ (l : Limits). l.ends) h.thresholds ∙ (g.ends ∙ ap (λ (q : Sealed). thresholds_list q.program) (sym h.program));
       loads = loads ∙ are_loads limits.size limits.ends facts.loads g.fit.loads;
     }
 
-pub entry_passes : (s : Scene) (p : Program) (n : ℕ) (f : Function) (facts : Facts) (limits : Limits) (e : Lifted (List AbsVal)) → IsSceneOf s p n f facts limits → IsGiven p f facts limits → e ≡ entry_row f facts.formals limits.size limits.ends →
+pub entry_passes : (s : Scene) (p : Sealed) (n : ℕ) (f : Function) (facts : Facts) (limits : Limits) (e : Lifted (List AbsVal)) → IsSceneOf s p n f facts limits → IsGiven p.program f facts limits → e ≡ entry_row f facts.formals limits.size limits.ends →
     file_by s.limits.now.size s.limits.now.ends (length s.registers.now) e ≡ true
 entry_passes s p n f facts limits e h g k =
-    let law : IsLawful limits.ends = subst IsLawful (sym g.ends) (list_lawful p) in
+    let law : IsLawful limits.ends = subst IsLawful (sym g.ends) (list_lawful p.program) in
     let same : file_by s.limits.now.size s.limits.now.ends (length s.registers.now) e ≡ file_by limits.size limits.ends (length (f.params ++ f.registers)) (entry_row f facts.formals limits.size limits.ends) =
     λ i. file_by (h.thresholds i).size (h.thresholds i).ends (length (h.registers i)) (k i) in
     same ∙ is_file limits.size limits.ends (length (f.params ++ f.registers)) (entry_row f facts.formals limits.size limits.ends) (entry_fits f facts limits.size limits.ends law g.fit)
@@ -178,10 +179,11 @@ row_at_point B bs xs e k i =
 
 -- ---- the values
 
-body_is : (s : Scene) (p : Program) (n : ℕ) (f : Function) (facts : Facts) (limits : Limits) → IsSceneOf s p n f facts limits → body_in s ≡ body_of p n f facts limits.size limits.ends
+body_is : (s : Scene) (p : Sealed) (n : ℕ) (f : Function) (facts : Facts) (limits : Limits) → IsSceneOf s p n f facts limits → body_in s ≡ body_of p n f facts limits.size limits.ends
 body_is s p n f facts limits h = λ i. record {
   structs = h.structs i;
   globals = h.globals i;
+  mode = (h.program i).mode;
   locals = h.locals i;
   registers = h.registers i;
   most = (h.thresholds i).size;
@@ -189,7 +191,7 @@ body_is s p n f facts limits h = λ i. record {
   loads = given_load (h.loads i).facts (h.loads i).function;
 }
 
-found_by : (p : Program) (n : ℕ) (f : Function) (facts : Facts) (limits : Limits) (rs : List Register) (rows : List (List (Lifted (List AbsVal)))) → rs ≡ f.params ++ f.registers →
+found_by : (p : Sealed) (n : ℕ) (f : Function) (facts : Facts) (limits : Limits) (rs : List Register) (rows : List (List (Lifted (List AbsVal)))) → rs ≡ f.params ++ f.registers →
     AreRows (body_of p n f facts limits.size limits.ends) f.blocks (entry_row f facts.formals limits.size limits.ends) rows → AreFound p n f facts limits (record { function = n; registers = rs; limits = limits; rows = rows })
 found_by p n f facts limits rs rows e r = record {
   begins = r.begins;
@@ -200,7 +202,7 @@ found_by p n f facts limits rs rows e r = record {
   made_with = refl;
 }
 
-pub found_of : (s : Scene) (p : Program) (n : ℕ) (f : Function) (facts : Facts) (limits : Limits) (rs : List Register) (blocks : List Block) (entry : Lifted (List AbsVal)) (rows : List (List (Lifted (List AbsVal)))) → IsSceneOf s p n f facts limits →
+pub found_of : (s : Scene) (p : Sealed) (n : ℕ) (f : Function) (facts : Facts) (limits : Limits) (rs : List Register) (blocks : List Block) (entry : Lifted (List AbsVal)) (rows : List (List (Lifted (List AbsVal)))) → IsSceneOf s p n f facts limits →
     rs ≡ f.params ++ f.registers → blocks ≡ f.blocks → entry ≡ entry_row f facts.formals limits.size limits.ends → AreRows (body_in s) blocks entry rows → AreFound p n f facts limits (record { function = n; registers = rs; limits = limits; rows = rows })
 found_of s p n f facts limits rs blocks entry rows h e b k r =
     found_by p n f facts limits rs rows e
@@ -234,13 +236,13 @@ given_by p n f facts most limits e accepted globals size branches fit m ts = rec
   fit = subst (λ us. FactsFit f facts limits.size us) (sym ts) (subst (λ k. FactsFit f facts k (thresholds_list p)) (sym m) (of_function (λ f. FactsFit f facts most (thresholds_list p)) (slice_get p.functions n) f e fit));
 }
 
-pub found_in : (p : Program) (n : ℕ) (f : Function) (facts : Facts) (most : ℕ) (limits : Limits) (t : Found) → slice_get p.functions n ≡ Some f → limits.size ≡ most → limits.ends ≡ thresholds_list p → AreFound p n f facts limits t →
-    OfFunction p n (λ f. AreFound p n f facts (record { size = most; ends = thresholds_list p }) t)
+pub found_in : (p : Sealed) (n : ℕ) (f : Function) (facts : Facts) (most : ℕ) (limits : Limits) (t : Found) → slice_get p.program.functions n ≡ Some f → limits.size ≡ most → limits.ends ≡ thresholds_list p.program → AreFound p n f facts limits t →
+    OfFunction p.program n (λ f. AreFound p n f facts (record { size = most; ends = thresholds_list p.program }) t)
 found_in p n f facts most limits t e m ts h =
-    let same : limits ≡ record { size = most; ends = thresholds_list p } = λ i. record { size = m i; ends = ts i } in
-    to_function (λ f. AreFound p n f facts (record { size = most; ends = thresholds_list p }) t) (slice_get p.functions n) f e (subst (λ l. AreFound p n f facts l t) same h)
+    let same : limits ≡ record { size = most; ends = thresholds_list p.program } = λ i. record { size = m i; ends = ts i } in
+    to_function (λ f. AreFound p n f facts (record { size = most; ends = thresholds_list p.program }) t) (slice_get p.program.functions n) f e (subst (λ l. AreFound p n f facts l t) same h)
 
-pub were_found : (p : Program) (n : ℕ) (f : Function) (facts : Facts) (limits : Limits) (t : Found) → slice_get p.functions n ≡ Some f → IsGiven p f facts limits → AreFound p n f facts limits t → WereFound p n t
+pub were_found : (p : Sealed) (n : ℕ) (f : Function) (facts : Facts) (limits : Limits) (t : Found) → slice_get p.program.functions n ≡ Some f → IsGiven p.program f facts limits → AreFound p n f facts limits t → WereFound p n t
 were_found p n f facts limits t e given h = record {
   function = f;
   own = e;

@@ -8,11 +8,11 @@ use Rattle.gimple_ir.specs.declared.block.Block.{Block}
 use Rattle.gimple_ir.specs.declared.declarations.Register.{Register}
 use Rattle.gimple_ir.specs.declared.value.Value.{Value}
 use Rattle.gimple_ir.specs.declared.program.Function.{Function}
-use Rattle.gimple_ir.specs.declared.program.Program.{Program}
-use Rattle.gimple_core.specs.declared.machine.Cell.{Cell}
+use Rattle.gimple_core.specs.Sealed.{Sealed}
 use Rattle.gimple_core.specs.State.{zero_of}
-use Rattle.gimple_core.specs.Run.{block_place, place_or, cells_made}
-use Rattle.gimple_claims.specs.Bodies.{and_then, carried}
+use Rattle.gimple_core.specs.Run.{values_made, registers_made}
+use Rattle.std.specs.Option.{option_and_then}
+use Rattle.gimple_claims.specs.Bodies.{carried}
 use Rattle.fix_engine.specs.declared.lifted.Lifted.{Lifted}
 use Rattle.fix_engine.specs.declared.lifted.Lifted.TheVariants.{NotReached, Reached}
 use Rattle.fix_engine.specs.Lifted.{FitsLifted, lifted_below}
@@ -27,12 +27,12 @@ use Rattle.fix_engine.specs.Rows.{Each}
 use Rattle.body_values.specs.declared.facts.Facts.{Facts}
 use Rattle.body_values.specs.Bodies.{Body, where_reached, after_stmt, after_body}
 use Rattle.body_values.specs.declared.branches.Branch.{Branch}
-use Rattle.body_values.specs.Flow.{body_of, zero_constant, zero_value, entry_row, labels_of, branches_to, branches_from, branches_of, along, along_block, source_of, to_of, system_of, value_or}
+use Rattle.body_values.specs.Flow.{body_of, zero_constant, zero_value, entry_row, block_place, place_or, labels_of, branches_to, branches_from, branches_of, along, along_block, source_of, to_of, system_of, value_or}
 use Rattle.body_values.specs.Rows.{LiftedFits, reached_below}
 use Rattle.body_values.specs.System.{FactsFit, kind_is, from_kind, place_within}
 use Rattle.body_values.specs.Claims.{RowHolds, FileHolds, FormalsMeet}
 use Rattle.value_domain.proofs.AboveLaws.{not_none}
-use Rattle.body_values.proofs.Held.{typed_is, row_above}
+use Rattle.body_values.proofs.Held.{row_above}
 use Rattle.body_values.proofs.Items.{zero_is as zero_constant_is}
 
 abbrev pub to_option : Lifted (List AbsVal) → Option (List AbsVal)
@@ -48,7 +48,7 @@ reached_is (Reached r) row e = let same : r ≡ row = cc in ap (λ z. Reached z)
 abbrev pub flow_of : Body → ℕ → ℕ → Stmt → List AbsVal → Option (List AbsVal)
 flow_of B k i x row = to_option (after_stmt B k i x row)
 
-where_is : (B : Body) (k i : ℕ) (s : Stmt) (x : Lifted (List AbsVal)) → to_option (where_reached x (after_stmt B k i s)) ≡ and_then (to_option x) (flow_of B k i s)
+where_is : (B : Body) (k i : ℕ) (s : Stmt) (x : Lifted (List AbsVal)) → to_option (where_reached x (after_stmt B k i s)) ≡ option_and_then (flow_of B k i s) (to_option x)
 where_is B k i s NotReached = refl
 where_is B k i s (Reached row) = refl
 
@@ -116,13 +116,13 @@ find_branch all (c ∷ bs) k (suc j) slot label b e g =
 abbrev is_empty : AbsVal → Bool
 is_empty a = is_none_val a
 
-formals_hold : (most : ℕ) (ts : List ℤ) (ps : List Register) (formals : List AbsVal) (arguments : List Value) (k : ℕ) (row : List AbsVal) (cells : List Cell) → length formals ≡ length ps → FormalsMeet ps formals arguments k → RowHolds row cells →
-    RowHolds (formals ++ row) (cells_made ps arguments k ++ cells)
-unfolding cells_made
-formals_hold most ts [] [] arguments k row cells e m h = h
-formals_hold most ts [] (a ∷ formals) arguments k row cells e m h = absurd (omega (arith, e))
-formals_hold most ts (r ∷ ps) [] arguments k row cells e m h = absurd (omega (arith, e))
-formals_hold most ts (r ∷ ps) (a ∷ formals) arguments k row cells e m h = (m.0, formals_hold most ts ps formals arguments (k + 1) row cells (omega (arith, e)) m.1 h)
+formals_hold : (most : ℕ) (ts : List ℤ) (ps : List Register) (formals : List AbsVal) (arguments : List Value) (k : ℕ) (row : List AbsVal) (values : List Value) → length formals ≡ length ps → FormalsMeet ps formals arguments k → RowHolds row values →
+    RowHolds (formals ++ row) (values_made ps arguments k ++ values)
+unfolding values_made
+formals_hold most ts [] [] arguments k row values e m h = h
+formals_hold most ts [] (a ∷ formals) arguments k row values e m h = absurd (omega (arith, e))
+formals_hold most ts (r ∷ ps) [] arguments k row values e m h = absurd (omega (arith, e))
+formals_hold most ts (r ∷ ps) (a ∷ formals) arguments k row values e m h = (m.0, formals_hold most ts ps formals arguments (k + 1) row values (omega (arith, e)) m.1 h)
 
 formals_full : (most : ℕ) (ts : List ℤ) (ps : List Register) (formals : List AbsVal) (arguments : List Value) (k : ℕ) → length formals ≡ length ps → Each (FitsWith most ts) formals → FormalsMeet ps formals arguments k → list_any is_none_val formals ≡ false
 formals_full most ts [] [] arguments k e f m = refl
@@ -134,20 +134,20 @@ formals_full most ts (r ∷ ps) (a ∷ formals) arguments k e f m = by (is_none_
     by true n rest = absurd (not_none most ts a _ f.0 m.0 n)
     by false n rest = rw n rest
 
-zeros_hold : (most : ℕ) (ts : List ℤ) → IsLawful ts → (rs : List Register) (k : ℕ) → RowHolds (map (zero_value most ts) rs) (cells_made rs [] k)
-unfolding cells_made
+zeros_hold : (most : ℕ) (ts : List ℤ) → IsLawful ts → (rs : List Register) (k : ℕ) → RowHolds (map (zero_value most ts) rs) (values_made rs [] k)
+unfolding values_made
 zeros_hold most ts law [] k = tt
-zeros_hold most ts law (r ∷ rs) k = (alone_holds most ts law r.scalar (zero_of r.scalar) (zero_constant r.scalar) (typed_is r.scalar (zero_of r.scalar) (zero_is r.scalar)) (zero_constant_is r.scalar), zeros_hold most ts law rs (k + 1))
+zeros_hold most ts law (r ∷ rs) k = (alone_holds most ts law r.scalar (zero_of r.scalar) (zero_constant r.scalar) (zero_is r.scalar) (zero_constant_is r.scalar), zeros_hold most ts law rs (k + 1))
 
 pub entry_holds : (f : Function) (facts : Facts) (most : ℕ) (ts : List ℤ) → IsLawful ts → FactsFit f facts most ts → (arguments : List Value) → FormalsMeet f.params facts.formals arguments 0 →
-    FileHolds (entry_row f facts.formals most ts) (cells_made f.params arguments 0 ++ cells_made f.registers [] 0)
+    FileHolds (entry_row f facts.formals most ts) (registers_made f arguments)
 entry_holds f facts most ts law fit arguments m =
     let full : list_any is_none_val facts.formals ≡ false = formals_full most ts f.params facts.formals arguments 0 fit.count fit.formals m in
-    rw full (formals_hold most ts f.params facts.formals arguments 0 (map (zero_value most ts) f.registers) (cells_made f.registers [] 0) fit.count m (zeros_hold most ts law f.registers 0))
+    rw full (formals_hold most ts f.params facts.formals arguments 0 (map (zero_value most ts) f.registers) (values_made f.registers [] 0) fit.count m (zeros_hold most ts law f.registers 0))
 
 -- ---- a solution
 
-module _ (p : Program) (n : ℕ) (f : Function) (facts : Facts) (most : ℕ) (ts : List ℤ) (law : IsLawful ts) (xs : List (Lifted (List AbsVal)))
+module _ (p : Sealed) (n : ℕ) (f : Function) (facts : Facts) (most : ℕ) (ts : List ℤ) (law : IsLawful ts) (xs : List (Lifted (List AbsVal)))
     (solves : IsSolution (FitsLifted (FitsRows FitsAbsVal) (length (f.params ++ f.registers) ∷ kind_of most ts)) (lifted_below (rows_below abs_val_below)) (system_of p n f facts most ts) xs) where
   abbrev B : Body
   B = body_of p n f facts most ts
@@ -164,21 +164,21 @@ module _ (p : Program) (n : ℕ) (f : Function) (facts : Facts) (most : ℕ) (ts
       (subst (λ us. LiftedFits most us (length (f.params ++ f.registers)) (value_at (system_of p n f facts most ts) xs k)) (kind_is most ts law)
       (from_kind (kind_of most ts) (length (f.params ++ f.registers)) _ (solves.fit k l)))
 
-  pub file_above : (x y : Lifted (List AbsVal)) (cells : List Cell) → Fits x → Fits y → reached_below x y ≡ true → FileHolds x cells → FileHolds y cells
-  file_above NotReached y cells f g e h = absurd h
-  file_above (Reached row) NotReached cells f g e h = cc
-  file_above (Reached row) (Reached other) cells f g e h = row_above most ts row other cells f.each e (f.count ∙ sym g.count) h
+  pub file_above : (x y : Lifted (List AbsVal)) (values : List Value) → Fits x → Fits y → reached_below x y ≡ true → FileHolds x values → FileHolds y values
+  file_above NotReached y values f g e h = absurd h
+  file_above (Reached row) NotReached values f g e h = cc
+  file_above (Reached row) (Reached other) values f g e h = row_above most ts row other values f.each e (f.count ∙ sym g.count) h
 
-  pub first_above : (cells : List Cell) → 0 < length f.blocks → Fits (entry_row f facts.formals most ts) → FileHolds (entry_row f facts.formals most ts) cells → FileHolds (value_or (slice_get xs 0)) cells
-  first_above cells l g h =
-      file_above (entry_row f facts.formals most ts) (value_or (slice_get xs 0)) cells g (value_fits 0 l) (subst (λ y. reached_below (entry_row f facts.formals most ts) y ≡ true) (there 0 l) (solves.above_start 0 l)) h
+  pub first_above : (values : List Value) → 0 < length f.blocks → Fits (entry_row f facts.formals most ts) → FileHolds (entry_row f facts.formals most ts) values → FileHolds (value_or (slice_get xs 0)) values
+  first_above values l g h =
+      file_above (entry_row f facts.formals most ts) (value_or (slice_get xs 0)) values g (value_fits 0 l) (subst (λ y. reached_below (entry_row f facts.formals most ts) y ≡ true) (there 0 l) (solves.above_start 0 l)) h
 
   -- the values at the block that a branch leads to are above those that it carries
-  pub next_above : (k slot label : ℕ) (b : Block) (cells : List Cell) → slice_get f.blocks k ≡ Some b → slice_get (labels_of b.end) slot ≡ Some label →
+  pub next_above : (k slot label : ℕ) (b : Block) (values : List Value) → slice_get f.blocks k ≡ Some b → slice_get (labels_of b.end) slot ≡ Some label →
       Fits (along_block B (record { source = k; slot = slot; target = place_or (block_place label f.blocks) }) (Some b) (value_or (slice_get xs k))) →
-      FileHolds (along_block B (record { source = k; slot = slot; target = place_or (block_place label f.blocks) }) (Some b) (value_or (slice_get xs k))) cells → FileHolds (value_or (slice_get xs (place_or (block_place label f.blocks)))) cells
+      FileHolds (along_block B (record { source = k; slot = slot; target = place_or (block_place label f.blocks) }) (Some b) (value_or (slice_get xs k))) values → FileHolds (value_or (slice_get xs (place_or (block_place label f.blocks)))) values
   unfolding branches_of along
-  next_above k slot label b cells e g fits h =
+  next_above k slot label b values e g fits h =
       let found : FoundBranch f.blocks f.blocks 0 k slot label = find_branch f.blocks f.blocks 0 k slot label b e g in
       let branch : Branch = record { source = k; slot = slot; target = place_or (block_place label f.blocks) } in
       let z : 0 + k ≡ k = omega arith in
@@ -193,4 +193,4 @@ module _ (p : Program) (n : ℕ) (f : Function) (facts : Facts) (most : ℕ) (ts
       subst (λ y. reached_below (along_block B branch (Some b) (value_or (slice_get xs k))) y ≡ true) (there (place_or (block_place label f.blocks)) within)
       (subst (λ x. reached_below (along_block B branch (Some b) x) (value_at (system_of p n f facts most ts) xs (place_or (block_place label f.blocks))) ≡ true) (there k some)
       (subst (λ o. reached_below (along_block B branch o (value_at (system_of p n f facts most ts) xs k)) (value_at (system_of p n f facts most ts) xs (place_or (block_place label f.blocks))) ≡ true) e one)) in
-      file_above _ _ cells fits (value_fits (place_or (block_place label f.blocks)) within) two h
+      file_above _ _ values fits (value_fits (place_or (block_place label f.blocks)) within) two h

@@ -14,7 +14,6 @@ use Rattle.gimple_ir.specs.declared.statement.Stmt.{Stmt}
 use Rattle.std.specs.Str.{bytes_eq}
 use Rattle.fix_engine.specs.declared.lifted.Lifted.TheVariants.{NotReached, Reached}
 use Rattle.gimple_core.specs.Layout.{layout_of}
-use Rattle.value_domain.specs.AbsOperators.{exactly_of}
 use Rattle.gimple_core.specs.Memory.{same_scalar}
 use Rattle.gimple_core.specs.Statements.{is_slot_at}
 use Rattle.gimple_ir.specs.declared.scalar.Scalar.{Scalar}
@@ -25,7 +24,7 @@ use Rattle.value_domain.specs.declared.abs_val.AbsVal.{AbsVal}
 use Rattle.value_domain.specs.Values.{FitsWith, abs_val_below}
 use Rattle.value_domain.specs.Thresholds.{IsLawful}
 use Rattle.body_values.specs.declared.scene.Scene.{Scene}
-use Rattle.body_values.specs.Bodies.{Body, scalar_or, register_scalar, operand_value, is_local, item_constant, slot_place, slot_value, constant_slot, item_value, after_stmt}
+use Rattle.body_values.specs.Bodies.{Body, scalar_or, register_scalar, operand_value, is_local, item_constant, constant_value, slot_place, slot_value, constant_slot, item_value, after_stmt}
 use Rattle.body_values.specs.Scenes.{body_in, Fit, IsGoodIn, IsReady}
 use Rattle.body_values.specs.Rows.{LiftedFits, row_below, below_self}
 use Rattle.body_values.specs.Rising.{RowsRise, operand_rises, stmt_rises}
@@ -75,9 +74,9 @@ changed_fit s k i x row other false law ready f e = tt
 pub slot_none : (B : Body) (scalar : Scalar) (offset : ℤ) (g : Global) → g.constant ≡ true → slot_place (layout_of B.structs g.decl).slots offset scalar ≡ None → None ≡ constant_slot B scalar offset (Some g)
 slot_none B scalar offset g c e = λ i. cond (sym c i) (slot_value B scalar g (sym e i)) None
 
-pub slot_some : (B : Body) (scalar : Scalar) (offset : ℤ) (g : Global) (n : ℕ) (v : AbsVal) → g.constant ≡ true → slot_place (layout_of B.structs g.decl).slots offset scalar ≡ Some n →
-    v ≡ exactly_of scalar B.most B.ends (item_constant B.globals scalar (slice_get g.items n)) → Some v ≡ constant_slot B scalar offset (Some g)
-slot_some B scalar offset g n v c e h = ap (λ u. Some u) h ∙ (λ i. cond (sym c i) (slot_value B scalar g (sym e i)) None)
+pub slot_some : (B : Body) (scalar : Scalar) (offset : ℤ) (g : Global) (n : ℕ) → g.constant ≡ true → slot_place (layout_of B.structs g.decl).slots offset scalar ≡ Some n →
+    constant_value B scalar (item_constant B.globals scalar (slice_get g.items n)) ≡ constant_slot B scalar offset (Some g)
+slot_some B scalar offset g n c e = λ i. cond (sym c i) (slot_value B scalar g (sym e i)) None
 
 -- the scalar of a register that was found by its name
 pub scalar_found : (rs : List Register) (name : List ℕ) (r : Option Register) → r ≡ find (λ r. bytes_eq r.name name) rs → scalar_or r ≡ register_scalar rs name

@@ -1,6 +1,6 @@
 use Rattle.std.proofs.Common.{◌≡◌, ◌∙◌, ap, List}
 use Rattle.gimple_ir.specs.declared.block.Block.{Block}
-use Rattle.gimple_core.specs.Run.{block_place}
+use Rattle.body_values.specs.Flow.{block_place}
 use Rattle.body_values.proofs.BranchCounts.{labelled, block_within}
 use Rattle.body_values.proofs.branching.LabelledBlocks.place.Goals as goal
 
