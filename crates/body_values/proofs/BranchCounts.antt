@@ -79,6 +79,9 @@ block_within blocks label None e = tt
 block_within [] label (Some k) e = cc
 block_within (b ∷ blocks) label (Some k) e = (position-Some (λ (b : Block). b.label == label) (b ∷ blocks) k b (sym e)).0
 
+from_here : (n k : ℕ) → n ≡ k → n + 0 ≡ k
+from_here n k e = omega (arith, e)
+
 from_place : (label n k : ℕ) (bs : List Block) (b : Block) → block_from label n bs ≡ Some (k, b) → n + position_or_len (λ (c : Block). c.label == label) bs ≡ k
 unfolding block_from
 from_place label n k [] b e = cc
@@ -86,7 +89,7 @@ from_place label n k (c ∷ bs) b e = by (c.label == label) e (from_place label 
   where
     by : (t : Bool) → (if t then Some (n, c) else block_from label (n + 1) bs) ≡ Some (k, b) → (block_from label (n + 1) bs ≡ Some (k, b) → (n + 1) + position_or_len (λ (c : Block). c.label == label) bs ≡ k) →
         n + cond (not t) (1 + position_or_len (λ (c : Block). c.label == label) bs) 0 ≡ k
-    by true f more = let pair : (n, c) ≡ (k, b) = cc in let same : n ≡ k = ap number_in pair in omega (arith, same)
+    by true f more = let pair : (n, c) ≡ (k, b) = cc in from_here n k (ap number_in pair)
     by false f more = let rest = more f in omega (arith, rest)
 
 -- the block that a run finds by its label has this number
