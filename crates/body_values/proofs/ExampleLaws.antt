@@ -1,5 +1,5 @@
 -- The example can be analysed.
-use Rattle.std.proofs.Common.{◌≡◌, ℕ, ◌<◌, ◌^◌, ℤ, List, [], length, Option, None, Some, IsSomeAnd, slice_get, refl, sym, ap, arith}
+use Rattle.std.proofs.Common.{◌≡◌, ℕ, ℤ, List, [], length, Option, None, Some, IsSomeAnd, slice_get, refl, sym, ap, arith}
 use Rattle.gimple_ir.specs.declared.program.Function.{Function}
 use Rattle.gimple_ir.specs.declared.program.Program.{Program}
 use Rattle.gimple_core.specs.Env as e
@@ -9,7 +9,7 @@ use Rattle.gimple_core.specs.Accepted.{checked, first_fault}
 use Rattle.body_values.specs.declared.facts.Facts.{Facts}
 use Rattle.body_values.specs.Found.{OfFunction}
 use Rattle.body_values.specs.System.{FactsFit}
-use Rattle.body_values.specs.Examples.{IsExample, count_program, count_function}
+use Rattle.body_values.specs.Examples.{IsExample, count_program}
 
 count_accepted : first_fault count_program ≡ None
 unfolding first_fault checked d.structs d.globals d.heads d.head d.main d.functions d.one_function d.own d.registers d.register d.is_free d.locals d.labels d.new_label s.blocks s.body s.statement s.operand s.arith s.right_side s.compared s.common_scalar s.label s.ending s.returned e.scalar_of

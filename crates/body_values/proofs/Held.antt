@@ -1,12 +1,12 @@
 -- What registers hold, and what their values say of it.
-use Rattle.std.proofs.Common.{◌≡◌, ℕ, zero, suc, ◌<◌, ℤ, Bool, true, false, cond, List, [], ◌∷◌, length, refl, sym, ◌∙◌, ap, subst, arith, rules, Option, Some, None, IsSomeAnd, slice_get, slice_set, unwrap_or}
+use Rattle.std.proofs.Common.{◌≡◌, ℕ, zero, suc, ◌<◌, ℤ, Bool, true, false, cond, List, [], ◌∷◌, length, refl, sym, ◌∙◌, ap, subst, arith, rules, Some, None, IsSomeAnd, slice_get, slice_set, unwrap_or}
 use Rattle.std.specs.List.{position_or_len}
 use Rattle.std.specs.Str.{bytes_eq}
 use Rattle.gimple_ir.specs.declared.scalar.Scalar.{Scalar}
 use Rattle.gimple_ir.specs.declared.value.Value.{Value}
 use Rattle.gimple_ir.specs.declared.value.Value.TheVariants.{Null}
 use Rattle.gimple_ir.specs.declared.declarations.Register.{Register}
-use Rattle.gimple_core.specs.State.{Scope, register_place, value_at, value_in, put_at, assigned, is_of}
+use Rattle.gimple_core.specs.State.{Scope, register_place, value_at, value_in, is_of}
 use Rattle.gimple_claims.specs.Typed.{registers_typed}
 use Rattle.gimple_claims.proofs.TypedValues.{HasRegister}
 use Rattle.fix_engine.specs.declared.lifted.Lifted.TheVariants.{NotReached, Reached}

@@ -16,7 +16,7 @@ use Rattle.gimple_core.specs.Sealed.{Sealed}
 use Rattle.gimple_core.specs.declared.machine.FoundSlot.{FoundSlot}
 use Rattle.gimple_core.specs.Operators.{in_scalar}
 use Rattle.gimple_core.specs.Memory.{Memory, found_at}
-use Rattle.gimple_core.specs.State.{Control, World, State, scope_of, setting_of, registers_of}
+use Rattle.gimple_core.specs.State.{Control, World, State, scope_of, setting_of}
 use Rattle.gimple_core.specs.Run.{Calling, call_of, act, step, resumed, given, taking, labelled, Exit, ToLabel, Returns, exit_of, registers_made, control_made, place_value}
 use Rattle.gimple_core.specs.Trace.{Event, told, accesses, load_event}
 use Rattle.gimple_core.specs.Env.{functions_by_name}
@@ -25,7 +25,7 @@ use Rattle.gimple_core.proofs.Passed.{first_passed}
 use Rattle.gimple_core.proofs.StepLemmas.{calling_stmt, call_is}
 use Rattle.gimple_claims.specs.Bodies.{MeetsAt, Meets, BodyFlow, IsBlock, first, jumped, StateAt, begin, next, IsAt, carried}
 use Rattle.gimple_claims.specs.Checks.{env_of, StmtsPass}
-use Rattle.gimple_claims.specs.Typed.{registers_typed, frame_typed}
+use Rattle.gimple_claims.specs.Typed.{frame_typed}
 use Rattle.gimple_claims.proofs.Comes.{Comes}
 use Rattle.gimple_claims.proofs.Files.{Placed, placed}
 use Rattle.gimple_claims.proofs.Globals.{globals_hold}

@@ -32,7 +32,7 @@ use Rattle.gimple_claims.proofs.Callees.{call_check}
 use Rattle.gimple_claims.proofs.Checked.{ok_same}
 use Rattle.gimple_claims.proofs.TypedValues.{scalar_there}
 use Rattle.fix_engine.specs.declared.lifted.Lifted.{Lifted}
-use Rattle.fix_engine.specs.declared.lifted.Lifted.TheVariants.{NotReached, Reached}
+use Rattle.fix_engine.specs.declared.lifted.Lifted.TheVariants.{Reached}
 use Rattle.value_domain.specs.declared.abs_val.AbsVal.{AbsVal}
 use Rattle.gimple_core.specs.Statements.{is_pointer}
 use Rattle.value_domain.specs.AbsOperators.{top_of}

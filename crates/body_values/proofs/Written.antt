@@ -1,11 +1,8 @@
 -- What the code asks of values.
-use Rattle.std.proofs.Common.{◌≡◌, ℕ, zero, suc, ◌≤◌, ◌==◌, ℤ, pos, negsuc, ◌≤ℤ◌, ◌<ℤ◌, Bool, true, false, cond, ◌&&◌, Option, Some, None, ◌∙◌, inl, inr, List, [], ◌∷◌, length, refl, sym, ap, subst, arith, slice_get, slice_set}
-use Rattle.std.proofs.lemmas.Int.{ints}
+use Rattle.std.proofs.Common.{◌≡◌, ℕ, zero, suc, ◌≤◌, ℤ, Bool, true, false, cond, Option, Some, None, ◌∙◌, List, [], ◌∷◌, length, refl, sym, ap, subst, arith, slice_get, slice_set}
 use Rattle.std.specs.Prelude.{MatchBool, ⊤}
 use Rattle.std.specs.List.{find}
 use Rattle.std.proofs.lemmas.List.Folds.{find_at}
-use Rattle.std.proofs.lemmas.Bool.{cases_Bool, eqb-true, eq-eqb}
-use Rattle.gimple_ir.specs.declared.value.LayoutSlot.{LayoutSlot}
 use Rattle.gimple_ir.specs.declared.operand.Base.TheVariants.{Variable}
 use Rattle.gimple_ir.specs.declared.operand.Place.{Place}
 use Rattle.gimple_ir.specs.declared.declarations.Global.{Global}
@@ -14,8 +11,6 @@ use Rattle.gimple_ir.specs.declared.statement.Stmt.{Stmt}
 use Rattle.std.specs.Str.{bytes_eq}
 use Rattle.fix_engine.specs.declared.lifted.Lifted.TheVariants.{NotReached, Reached}
 use Rattle.gimple_core.specs.Layout.{layout_of}
-use Rattle.gimple_core.specs.Memory.{same_scalar}
-use Rattle.gimple_core.specs.Statements.{is_slot_at}
 use Rattle.gimple_ir.specs.declared.scalar.Scalar.{Scalar}
 use Rattle.gimple_ir.specs.declared.operand.Operand.{Operand}
 use Rattle.fix_engine.specs.Bools.{both}

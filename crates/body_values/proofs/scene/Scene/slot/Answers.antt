@@ -1,4 +1,4 @@
-use Rattle.std.proofs.Common.{rules, ◌≡◌, ◌∙◌, ap, sym, Some, IfOk, slice_get, subst}
+use Rattle.std.proofs.Common.{rules, ◌≡◌, ◌∙◌, ap, sym, IfOk, slice_get, subst}
 use Rattle.std.specs.Option.{option_copied}
 use Rattle.body_values.specs.Bodies.{constant_value, item_constant}
 use Rattle.body_values.specs.Scenes.{body_in}
