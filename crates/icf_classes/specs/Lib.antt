@@ -1,3 +1,4 @@
 pub mod Placed
 pub mod Congruence
 pub mod Merged
+pub mod Mergers

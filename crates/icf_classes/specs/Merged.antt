@@ -1,14 +1,16 @@
 -- A program in which the functions of a class are one.
-use Rattle.std.specs.Prelude.{◌≡◌, ◌↔◌, ℕ, ◌==◌, Bool, ◌||◌, if◌then◌else◌, List, map, slice_get, Option, Some, None, IsTrue, ◌⊎◌}
+use Rattle.std.specs.Prelude.{◌≡◌, ◌↔◌, ℕ, ℤ, ◌==◌, Bool, ◌||◌, if◌then◌else◌, List, map, slice_get, Option, Some, None, IsTrue, ◌⊎◌}
 use Rattle.gimple_ir.specs.declared.statement.Stmt.{Stmt}
 use Rattle.gimple_ir.specs.declared.statement.Stmt.TheVariants.{Copy, Arith, Compare, Convert, Load, Store, Call, Indirect, Get, Put, Abort}
 use Rattle.gimple_ir.specs.declared.block.Block.{Block}
 use Rattle.gimple_ir.specs.declared.program.Function.{Function}
 use Rattle.gimple_ir.specs.declared.program.Program.{Program}
-use Rattle.gimple_core.specs.Run.{function_named, main_name}
+use Rattle.gimple_core.specs.Accepted.{IsAccepted}
+use Rattle.gimple_core.specs.Sealed.{Sealed}
+use Rattle.gimple_core.specs.Run.{function_named, main_name, Run}
 use Rattle.gimple_core.specs.Reach.{IsAddressed, with_kept}
 use Rattle.icf_classes.specs.Placed.{number_of}
-use Rattle.icf_classes.specs.Congruence.{class_of}
+use Rattle.icf_classes.specs.Congruence.{class_of, AreClasses}
 
 abbrev pub name_or : List ℕ → Option Function → List ℕ
 name_or name None = name
@@ -64,3 +66,7 @@ pub record IsMerged (p : Program) (classes : List ℕ) (q : Program) : Type 0 wh
   pub stays : List ℕ → Bool
   pub exact : (name : List ℕ) (f : Function) → function_named name p.functions ≡ Some f → IsTrue (stays name) ↔ ((name ≡ main_name) ⊎ IsAddressed p name)
   pub program : q ≡ merged p stays classes
+
+-- a program runs as before, in either mode, where the functions of each class are one
+abbrev pub MergingKeepsRuns : Type 0
+MergingKeepsRuns = (p q : Sealed) (classes : List ℕ) → IsAccepted p.program → AreClasses p.program classes → IsMerged p.program classes q.program → q.mode ≡ p.mode → (input : List ℤ) (n : ℕ) → Run q input n ≡ Run p input n

@@ -1,3 +1,9 @@
-//! Identical code folding: what the classes of functions are that do the same by their form, and what a program is in which
-//! each class is one.
+//! Identical code folding: what the classes of functions are that do the same by their form, and programs in which each class
+//! is one.
 #![tactic(auto)]
+
+mod merger;
+mod merging;
+
+pub use gimple_core::Numbers;
+pub use merging::{merge, merging_keeps_runs};
