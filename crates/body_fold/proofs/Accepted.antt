@@ -127,54 +127,38 @@ main_alike number (f ∷ fs) (g ∷ gs) e =
 
 -- ---- the other functions
 
-functions_alike : (known : Env) (names more : Names Function) (number : ℕ) (fs : List Function) → SameHeads names more → d.functions known names number fs ≡ d.functions known more number fs
-unfolding d.functions
-functions_alike known names more number [] e = refl
-functions_alike known names more number (f ∷ fs) e = λ i. function_same names more e known number f i >> functions_alike known names more (number + 1) fs e i
+module _ (known : Env) (names more : Names Function) (heads : SameHeads names more) (ts : Targets) (h : SameTargets ts known.targets) where
+  functions_alike : (number : ℕ) (fs : List Function) → d.functions known more number fs ≡ Ok tt → d.functions (record known { targets = ts }) names number fs ≡ Ok tt
+  unfolding d.functions
+  functions_alike number [] p = refl
+  functions_alike number (f ∷ fs) p =
+      let a = first_passed (d.one_function known more number f) _ tt p in
+      both_pass (d.one_function (record known { targets = ts }) names number f) _ tt tt (function_seen names more heads ts known h number f a.1) (functions_alike (number + 1) fs a.2)
 
-functions_set : (known : Env) (names more : Names Function) (number : ℕ) (fs : List Function) (n : ℕ) (f g : Function) → SameHeads names more → slice_get fs n ≡ Some f → d.functions known more number fs ≡ Ok tt → ((k : ℕ) → d.one_function known names k g ≡ Ok tt) → d.functions known names number (slice_set fs n g) ≡ Ok tt
-unfolding d.functions
-functions_set known names more number [] n f g e own h new = cc
-functions_set known names more number (x ∷ xs) zero f g e own h new =
-    let a = first_passed (d.one_function known more number x) _ tt h in
-    both_pass (d.one_function known names number g) _ tt tt (new number) (functions_alike known names more (number + 1) xs e ∙ a.2)
-functions_set known names more number (x ∷ xs) (suc n) f g e own h new =
-    let a = first_passed (d.one_function known more number x) _ tt h in
-    both_pass (d.one_function known names number x) _ tt tt (function_same names more e known number x ∙ a.1) (functions_set known names more (number + 1) xs n f g e own a.2 new)
-
--- ---- what the function sees
-
-own_folded : (known out : Env) (names : Names Function) (f : Function) (bs : List Block) (ls : List ℕ) → d.own known names f ≡ Ok out → d.has_blocks bs ≡ true → d.labels [] bs ≡ Ok ls → d.own known names (record f { blocks = bs }) ≡ Ok (relabelled out ls)
-unfolding d.own
-own_folded known out names f bs ls h some labels =
-    let first : Env = record known { locals = []; registers = []; labels = []; result = f.result } in
-    let p = first_passed (d.registers first names f.params) _ out h in
-    let q = first_passed (d.locals p.0 names f.locals) _ out p.2 in
-    let r = first_passed (d.registers q.0 names f.registers) _ out q.2 in
-    let k = first_passed (demand (d.has_blocks f.blocks) 10) _ out r.2 in
-    let t = first_passed (d.labels [] f.blocks) _ out k.2 in
-    both_pass (d.registers first names f.params) _ p.0 (relabelled out ls) p.1
-    (both_pass (d.locals p.0 names f.locals) _ q.0 (relabelled out ls) q.1
-    (both_pass (d.registers q.0 names f.registers) _ r.0 (relabelled out ls) r.1
-    (both_pass (demand (d.has_blocks bs) 10) _ tt (relabelled out ls) (demand_passes _ 10 some)
-    (both_pass (d.labels [] bs) _ ls (relabelled out ls) labels (ap (λ (e : Env). Ok (relabelled e ls)) (ok_same t.2))))))
-
-labels_of_function : (known out : Env) (names : Names Function) (f : Function) → d.own known names f ≡ Ok out → (ls : List ℕ) × (d.labels [] f.blocks ≡ Ok ls)
-unfolding d.own
-labels_of_function known out names f h =
-    let first : Env = record known { locals = []; registers = []; labels = []; result = f.result } in
-    let p = first_passed (d.registers first names f.params) _ out h in
-    let q = first_passed (d.locals p.0 names f.locals) _ out p.2 in
-    let r = first_passed (d.registers q.0 names f.registers) _ out q.2 in
-    let k = first_passed (demand (d.has_blocks f.blocks) 10) _ out r.2 in
-    let t = first_passed (d.labels [] f.blocks) _ out k.2 in
-    (t.0, t.1)
+  pub functions_set : (number : ℕ) (fs : List Function) (n : ℕ) (f g : Function) → slice_get fs n ≡ Some f → d.functions known more number fs ≡ Ok tt → ((k : ℕ) → d.one_function (record known { targets = ts }) names k g ≡ Ok tt) →
+      d.functions (record known { targets = ts }) names number (slice_set fs n g) ≡ Ok tt
+  unfolding d.functions
+  functions_set number [] n f g own p new = cc
+  functions_set number (x ∷ xs) zero f g own p new =
+      let a = first_passed (d.one_function known more number x) _ tt p in
+      both_pass (d.one_function (record known { targets = ts }) names number g) _ tt tt (new number) (functions_alike (number + 1) xs a.2)
+  functions_set number (x ∷ xs) (suc n) f g own p new =
+      let a = first_passed (d.one_function known more number x) _ tt p in
+      both_pass (d.one_function (record known { targets = ts }) names number x) _ tt tt (function_seen names more heads ts known h number x a.1) (functions_set (number + 1) xs n f g own a.2 new)
 
 -- ---- the folded function
 
-module _ (p : Program) (n : ℕ) (f : Function) (facts : Facts) (most : ℕ) (ts : List ℤ) (values : ℕ → ℕ → Lifted (List AbsVal)) (names : Names Function) (heads : SameHeads names (functions_by_name p.functions)) (keep : ℕ → Bool) where
+module _ (q : Sealed) (n : ℕ) (f : Function) (facts : Facts) (most : ℕ) (ts : List ℤ) (values : ℕ → ℕ → Lifted (List AbsVal)) (names : Names Function) (heads : SameHeads names (functions_by_name q.program.functions))
+    (us : Targets) (alike : SameTargets us (targets_of q.program)) (keep : ℕ → Bool) where
+  abbrev p : Program
+  p = q.program
+
   abbrev S : Folding
-  S = folding_of p n f facts most ts
+  S = folding_of q n f facts most ts
+
+  -- what the folded function sees, with these labels
+  abbrev seen : List ℕ → Env
+  seen ls = seen_with (env_of p f) us ls
 
   abbrev put : ℕ → ℕ → Stmt → Stmt
   put k i x = new_stmt S values k i x
@@ -193,21 +177,21 @@ module _ (p : Program) (n : ℕ) (f : Function) (facts : Facts) (most : ℕ) (ts
   at_passes_end e NotReached h = h
   at_passes_end e (Reached row) h = end_passes p f S row refl refl e h
 
-  body_new : (ls : List ℕ) (index number k i : ℕ) (xs : List Stmt) → StmtsPass (env_of p f) (functions_by_name p.functions) xs → s.body (relabelled (env_of p f) ls) names index number (new_body put k i xs) ≡ Ok tt
+  body_new : (ls : List ℕ) (index number k i : ℕ) (xs : List Stmt) → StmtsPass (env_of p f) (functions_by_name p.functions) xs → s.body (seen ls) names index number (new_body put k i xs) ≡ Ok tt
   unfolding s.body
   body_new ls index number k i [] h = refl
   body_new ls index number k i (x ∷ xs) h =
-      let one : s.statement (relabelled (env_of p f) ls) names (put k i x) ≡ Ok tt =
-      statement_heads (relabelled (env_of p f) ls) names (functions_by_name p.functions) heads (put k i x) ∙ (statement_re (env_of p f) ls (functions_by_name p.functions) (put k i x) ∙ at_passes_stmt k i x (values k i) h.0) in
-      both_pass (at (site.Statement index number) (s.statement (relabelled (env_of p f) ls) names (put k i x))) _ tt tt (at_passes _ (s.statement (relabelled (env_of p f) ls) names (put k i x)) tt one) (body_new ls index (number + 1) k (i + 1) xs h.1)
+      let one : s.statement (seen ls) names (put k i x) ≡ Ok tt =
+      statement_heads (seen ls) names (functions_by_name p.functions) heads (put k i x) ∙ (statement_seen (env_of p f) us ls alike (functions_by_name p.functions) (put k i x) ∙ at_passes_stmt k i x (values k i) h.0) in
+      both_pass (at (site.Statement index number) (s.statement (seen ls) names (put k i x))) _ tt tt (at_passes _ (s.statement (seen ls) names (put k i x)) tt one) (body_new ls index (number + 1) k (i + 1) xs h.1)
 
   abbrev EndsPass : List ℕ → ℕ → List Block → Type 0
-  EndsPass ls k bs = (j m : ℕ) (b : Block) → slice_get bs j ≡ Some b → k + j ≡ m → keep m ≡ true → LabelsPass (relabelled (env_of p f) ls) (end m b.end)
+  EndsPass ls k bs = (j m : ℕ) (b : Block) → slice_get bs j ≡ Some b → k + j ≡ m → keep m ≡ true → LabelsPass (seen ls) (end m b.end)
 
   later_ends : (ls : List ℕ) (k : ℕ) (b : Block) (bs : List Block) → EndsPass ls k (b ∷ bs) → EndsPass ls (k + 1) bs
   later_ends ls k b bs h j m c e a t = h (suc j) m c e (omega (arith, a)) t
 
-  blocks_new : (ls : List ℕ) (index number k : ℕ) (bs : List Block) → BlocksPass (env_of p f) (functions_by_name p.functions) bs → EndsPass ls k bs → s.blocks (relabelled (env_of p f) ls) names index number (new_blocks put end keep k bs) ≡ Ok tt
+  blocks_new : (ls : List ℕ) (index number k : ℕ) (bs : List Block) → BlocksPass (env_of p f) (functions_by_name p.functions) bs → EndsPass ls k bs → s.blocks (seen ls) names index number (new_blocks put end keep k bs) ≡ Ok tt
   unfolding s.blocks
   blocks_new ls index number k [] h ends = refl
   blocks_new ls index number k (b ∷ bs) h ends = by (keep k) refl (λ m. blocks_new ls index m (k + 1) bs h.1 (later_ends ls k b bs ends))
@@ -215,12 +199,12 @@ module _ (p : Program) (n : ℕ) (f : Function) (facts : Facts) (most : ℕ) (ts
       made : Block
       made = record { label = b.label; body = new_body put k 0 b.body; end = end k b.end }
 
-      by : (t : Bool) → keep k ≡ t → ((m : ℕ) → s.blocks (relabelled (env_of p f) ls) names index m (new_blocks put end keep (k + 1) bs) ≡ Ok tt) → s.blocks (relabelled (env_of p f) ls) names index number (if t then made ∷ new_blocks put end keep (k + 1) bs else new_blocks put end keep (k + 1) bs) ≡ Ok tt
+      by : (t : Bool) → keep k ≡ t → ((m : ℕ) → s.blocks (seen ls) names index m (new_blocks put end keep (k + 1) bs) ≡ Ok tt) → s.blocks (seen ls) names index number (if t then made ∷ new_blocks put end keep (k + 1) bs else new_blocks put end keep (k + 1) bs) ≡ Ok tt
       by true t more =
-          let passes : s.ending (relabelled (env_of p f) ls) (end k b.end) ≡ Ok tt =
-          ending_re (env_of p f) ls (end k b.end) (at_passes_end b.end _ h.0.end) (ends 0 k b refl (omega arith) t) in
-          both_pass (s.body (relabelled (env_of p f) ls) names index number made.body) _ tt tt (body_new ls index number k 0 b.body h.0.body)
-          (both_pass (at (site.Statement index (number + length made.body)) (s.ending (relabelled (env_of p f) ls) made.end)) _ tt tt (at_passes _ (s.ending (relabelled (env_of p f) ls) made.end) tt passes)
+          let passes : s.ending (seen ls) (end k b.end) ≡ Ok tt =
+          ending_seen (env_of p f) us ls alike (end k b.end) (at_passes_end b.end _ h.0.end) (ends 0 k b refl (omega arith) t) in
+          both_pass (s.body (seen ls) names index number made.body) _ tt tt (body_new ls index number k 0 b.body h.0.body)
+          (both_pass (at (site.Statement index (number + length made.body)) (s.ending (seen ls) made.end)) _ tt tt (at_passes _ (s.ending (seen ls) made.end) tt passes)
           (more (number + length made.body + 1)))
       by false t more = more number
 
@@ -235,7 +219,7 @@ module _ (p : Program) (n : ℕ) (f : Function) (facts : Facts) (most : ℕ) (ts
     new_listed : (b : Block) (m : ℕ) (o : Option Block) → NewAt put end m b o → (c : Block) × (o ≡ Some c)
     new_listed b m o h = (h.block, h.found)
 
-    label_kept : (ls : List ℕ) (label : ℕ) → ls ≡ map (λ (b : Block). b.label) new → s.label (env_of p f) label ≡ Ok tt → keep (place_or (block_place label f.blocks)) ≡ true → s.label (relabelled (env_of p f) ls) label ≡ Ok tt
+    label_kept : (ls : List ℕ) (label : ℕ) → ls ≡ map (λ (b : Block). b.label) new → s.label (env_of p f) label ≡ Ok tt → keep (place_or (block_place label f.blocks)) ≡ true → s.label (seen ls) label ≡ Ok tt
     unfolding s.label
     label_kept ls label e h k =
         let b = labelled label f.blocks (demanded _ 8 h) in
@@ -253,11 +237,11 @@ module _ (p : Program) (n : ℕ) (f : Function) (facts : Facts) (most : ℕ) (ts
     some_new (b ∷ bs) h t e k = rw (sym e ∙ k) refl
 
     -- the folded function passes
-    pub one_passes : (number index : ℕ) → d.one_function (known_env p.structs (globals_by_name p.globals)) (functions_by_name p.functions) number f ≡ Ok tt →
-        d.one_function (known_env p.structs (globals_by_name p.globals)) names index (record f { blocks = new }) ≡ Ok tt
+    pub one_passes : (number index : ℕ) → d.one_function (known_env p.structs (targets_of p) (globals_by_name p.globals)) (functions_by_name p.functions) number f ≡ Ok tt →
+        d.one_function (known_env p.structs (targets_of p) (globals_by_name p.globals)) names index (record f { blocks = new }) ≡ Ok tt
     unfolding d.one_function
     one_passes number index h =
-        let known : Env = known_env p.structs (globals_by_name p.globals) in
+        let known : Env = known_env p.structs (targets_of p) (globals_by_name p.globals) in
         let a = first_passed (at _ (d.own known (functions_by_name p.functions) f)) _ tt h in
         let own = at_passed _ (d.own known (functions_by_name p.functions) f) a.0 a.1 in
         let sight = sees known a.0 (functions_by_name p.functions) f own in
@@ -266,10 +250,10 @@ module _ (p : Program) (n : ℕ) (f : Function) (facts : Facts) (most : ℕ) (ts
         let old = labels_of_function known a.0 (functions_by_name p.functions) f own in
         let ls = labels_kept put end keep 0 [] [] old.0 f.blocks (λ l q. q) old.1 in
         let are : ls.0 ≡ map (λ (b : Block). b.label) new = labels_are [] ls.0 new ls.1 in
-        let seen : d.own known names (record f { blocks = new }) ≡ Ok (relabelled (env_of p f) ls.0) =
+        let seen : d.own known names (record f { blocks = new }) ≡ Ok (seen ls.0) =
         own_same names (functions_by_name p.functions) heads known (record f { blocks = new })
         ∙ own_folded known (env_of p f) (functions_by_name p.functions) f new ls.0 (own ∙ ap Ok same) (some_new f.blocks sight.some (keep 0) refl (kept 0 first)) ls.1 in
-        both_pass (at (site.Statement index 0) (d.own known names (record f { blocks = new }))) _ (relabelled (env_of p f) ls.0) tt (at_passes _ (d.own known names (record f { blocks = new })) _ seen)
+        both_pass (at (site.Statement index 0) (d.own known names (record f { blocks = new }))) _ (seen ls.0) tt (at_passes _ (d.own known names (record f { blocks = new })) _ seen)
         (blocks_new ls.0 index 1 0 f.blocks blocks (ends_pass ls.0 are blocks))
 
 -- ---- the whole program
@@ -278,7 +262,7 @@ accepted_by : (p : Program) (n : ℕ) (f : Function) (facts : Facts) (most : ℕ
 unfolding first_fault checked
 accepted_by p n f facts most ts xs g folds =
     let a : Parts p = parts p folds.values.accepted in
-    let known : Env = known_env p.structs (globals_by_name p.globals) in
+    let known : Env = known_env p.structs (targets_of p) (globals_by_name p.globals) in
     let gs : List Function = slice_set p.functions n g in
     let alike : Alike p.functions gs = set_faces p.functions n f g folds.own (ap face folds.folded.is) in
     let heads : SameHeads (functions_by_name gs) (functions_by_name p.functions) = tables_alike p.functions gs alike in

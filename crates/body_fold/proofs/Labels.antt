@@ -5,7 +5,7 @@ use Rattle.std.proofs.lemmas.Bool.{eqb-true, eq-eqb}
 use Rattle.gimple_ir.specs.declared.statement.Stmt.{Stmt}
 use Rattle.gimple_ir.specs.declared.block.Block.{Block}
 use Rattle.gimple_ir.specs.declared.block.End.{End}
-use Rattle.gimple_core.specs.Run.{block_at}
+use Rattle.gimple_core.specs.Run.{block_from, labelled}
 use Rattle.gimple_core.specs.Verdict.{demand}
 use Rattle.gimple_core.specs.Declarations as d
 use Rattle.gimple_core.proofs.Passed.{first_passed, both_pass, demanded, demand_passes}
@@ -15,29 +15,24 @@ use Rattle.gimple_claims.proofs.Checked.{ok_same}
 abbrev Lists : List ℕ → ℕ → Bool
 Lists ls l = list_any (λ m. l == m) ls
 
--- ---- a label that is listed has a block, and the other way
-
-labelled_by : (to : ℕ) (b : Block) (bs : List Block) → (Lists (map (λ b. b.label) bs) to ≡ true → (c : Block) × (block_at to bs ≡ Some c)) →
-    (x : Bool) → (b.label == to) ≡ x → (y : Bool) → (to == b.label) ≡ y → y || Lists (map (λ b. b.label) bs) to ≡ true → (c : Block) × ((if x then Some b else block_at to bs) ≡ Some c)
-labelled_by to b bs more true e y f h = (b, refl)
-labelled_by to b bs more false e true f h = let there : (b.label == to) ≡ true = eq-eqb b.label to (sym (eqb-true to b.label f)) in cc
-labelled_by to b bs more false e false f h = more h
-
-pub labelled : (to : ℕ) (bs : List Block) → Lists (map (λ (b : Block). b.label) bs) to ≡ true → (b : Block) × (block_at to bs ≡ Some b)
-labelled to [] h = cc
-labelled to (b ∷ bs) h = labelled_by to b bs (labelled to bs) (b.label == to) refl (to == b.label) refl h
+-- ---- a block that is found has its label listed
 
 either : (a b : Bool) → b ≡ true → a || b ≡ true
 either true b h = refl
 either false b h = h
 
-pub block_listed : (to : ℕ) (bs : List Block) (b : Block) → block_at to bs ≡ Some b → Lists (map (λ (c : Block). c.label) bs) to ≡ true
-block_listed to [] b e = cc
-block_listed to (x ∷ xs) b e = by (x.label == to) refl e (block_listed to xs b)
-  where
-    by : (t : Bool) → (x.label == to) ≡ t → (if t then Some x else block_at to xs) ≡ Some b → (block_at to xs ≡ Some b → Lists (map (λ (c : Block). c.label) xs) to ≡ true) → (to == x.label) || Lists (map (λ (c : Block). c.label) xs) to ≡ true
-    by true t f more = rw (eq-eqb to x.label (sym (eqb-true x.label to t))) refl
-    by false t f more = either (to == x.label) (Lists (map (λ (c : Block). c.label) xs) to) (more f)
+listed_by : (to n : ℕ) (c : Block) (cs : List Block) (x : ℕ × Block) → (block_from to (n + 1) cs ≡ Some x → Lists (map (λ (b : Block). b.label) cs) to ≡ true) → (t : Bool) → (c.label == to) ≡ t →
+    (if t then Some (n, c) else block_from to (n + 1) cs) ≡ Some x → (to == c.label) || Lists (map (λ (b : Block). b.label) cs) to ≡ true
+listed_by to n c cs x more true t e = rw (eq-eqb to c.label (sym (eqb-true c.label to t))) refl
+listed_by to n c cs x more false t e = either (to == c.label) (Lists (map (λ (b : Block). b.label) cs) to) (more e)
+
+from_listed : (to n : ℕ) (bs : List Block) (x : ℕ × Block) → block_from to n bs ≡ Some x → Lists (map (λ (b : Block). b.label) bs) to ≡ true
+unfolding block_from
+from_listed to n [] x e = cc
+from_listed to n (c ∷ cs) x e = listed_by to n c cs x (from_listed to (n + 1) cs x) (c.label == to) refl e
+
+pub block_listed : (to : ℕ) (bs : List Block) (x : ℕ × Block) → labelled to bs ≡ Some x → Lists (map (λ (b : Block). b.label) bs) to ≡ true
+block_listed to bs x e = from_listed to 0 bs x e
 
 -- ---- kept labels differ where all do
 

@@ -11,13 +11,13 @@ use Rattle.gimple_ir.specs.declared.declarations.Global.{Global}
 use Rattle.gimple_ir.specs.declared.program.Function.{Function}
 use Rattle.gimple_ir.specs.declared.program.Program.{Program}
 use Rattle.gimple_core.specs.Verdict.{demand, at}
-use Rattle.gimple_core.specs.Env.{Env, Names, has, named, declared, globals_by_name, functions_by_name}
+use Rattle.gimple_core.specs.Env.{Env, Names, Targets, has, named, declared, targets_of, globals_by_name, functions_by_name}
 use Rattle.gimple_core.specs.Declarations as d
 use Rattle.gimple_core.specs.Accepted.{checked, first_fault, known_env}
 use Rattle.gimple_core.proofs.NameLemmas.{same_name_true, same_name_self}
 use Rattle.gimple_core.proofs.Passed.{first_passed, demanded, at_passed, no_fault}
 use Rattle.gimple_core.proofs.EnvLemmas.{same_test, has_append, declared_new}
-use Rattle.gimple_core.proofs.KeptAccepted.{heads_are}
+use Rattle.gimple_core.proofs.Heads.{heads_are}
 use Rattle.gimple_core.proofs.ProgramTyped.{globals_are}
 use Rattle.gimple_claims.proofs.Checked.{ok_same}
 use Rattle.body_values.specs.Bodies.{is_local, global_place}
@@ -45,31 +45,31 @@ pub record IsFirst (earlier : Names Global) (gs : List Global) (k : ℕ) (g : Gl
   pub new : has g.decl.name earlier ≡ false
   pub place : position_or_len (λ (x : Global). bytes_eq x.decl.name g.decl.name) gs ≡ k
 
-global_first : (structs : List StructDef) (all : Names Global) (number : ℕ) (earlier out : Names Global) (gs : List Global) → d.globals structs all number earlier gs ≡ Ok out → (k : ℕ) (g : Global) → slice_get gs k ≡ Some g → IsFirst earlier gs k g
+global_first : (structs : List StructDef) (ts : Targets) (all : Names Global) (number : ℕ) (earlier out : Names Global) (gs : List Global) → d.globals structs ts all number earlier gs ≡ Ok out → (k : ℕ) (g : Global) → slice_get gs k ≡ Some g → IsFirst earlier gs k g
 unfolding d.globals d.one_global
-global_first structs all number earlier out [] h k g e = cc
-global_first structs all number earlier out (x ∷ xs) h zero g e =
-    let p = first_passed (at _ (d.one_global structs all earlier x)) _ out h in
-    let more = first_passed (declared earlier x.decl.name x) _ p.0 (at_passed _ (d.one_global structs all earlier x) p.0 p.1) in
+global_first structs ts all number earlier out [] h k g e = cc
+global_first structs ts all number earlier out (x ∷ xs) h zero g e =
+    let p = first_passed (at _ (d.one_global structs ts all earlier x)) _ out h in
+    let more = first_passed (declared earlier x.decl.name x) _ p.0 (at_passed _ (d.one_global structs ts all earlier x) p.0 p.1) in
     let new = declared_new earlier x.decl.name x more.0 more.1 in
     let same : x ≡ g = cc in
     record { new = subst (λ (y : Global). has y.decl.name earlier ≡ false) same new.0; place = here_first (bytes_eq x.decl.name g.decl.name) _ (ap (λ (y : Global). bytes_eq y.decl.name g.decl.name) same ∙ same_name_self g.decl.name) }
-global_first structs all number earlier out (x ∷ xs) h (suc k) g e =
-    let p = first_passed (at _ (d.one_global structs all earlier x)) _ out h in
-    let more = first_passed (declared earlier x.decl.name x) _ p.0 (at_passed _ (d.one_global structs all earlier x) p.0 p.1) in
+global_first structs ts all number earlier out (x ∷ xs) h (suc k) g e =
+    let p = first_passed (at _ (d.one_global structs ts all earlier x)) _ out h in
+    let more = first_passed (declared earlier x.decl.name x) _ p.0 (at_passed _ (d.one_global structs ts all earlier x) p.0 p.1) in
     let new = declared_new earlier x.decl.name x more.0 more.1 in
-    let made : p.0 ≡ earlier ++ (x.decl.name, x) ∷ [] = one_made earlier p.0 x (at_passed _ (d.one_global structs all earlier x) p.0 p.1) in
-    let r : IsFirst p.0 xs k g = global_first structs all (number + 1) p.0 out xs p.2 k g e in
+    let made : p.0 ≡ earlier ++ (x.decl.name, x) ∷ [] = one_made earlier p.0 x (at_passed _ (d.one_global structs ts all earlier x) p.0 p.1) in
+    let r : IsFirst p.0 xs k g = global_first structs ts all (number + 1) p.0 out xs p.2 k g e in
     let apart = neither (has g.decl.name earlier) (has g.decl.name ((x.decl.name, x) ∷ [])) (sym (has_append g.decl.name earlier ((x.decl.name, x) ∷ [])) ∙ (ap (has g.decl.name) (sym made) ∙ r.new)) in
     let other : bytes_eq x.decl.name g.decl.name ≡ false = sym (same_test g.decl.name x.decl.name) ∙ unlike (bytes_eq g.decl.name x.decl.name) x g.decl.name refl apart.1 in
     record { new = apart.0; place = later_first (bytes_eq x.decl.name g.decl.name) _ other ∙ ap suc r.place }
   where
-    one_made : (earlier out : Names Global) (x : Global) → d.one_global structs all earlier x ≡ Ok out → out ≡ earlier ++ (x.decl.name, x) ∷ []
+    one_made : (earlier out : Names Global) (x : Global) → d.one_global structs ts all earlier x ≡ Ok out → out ≡ earlier ++ (x.decl.name, x) ∷ []
     one_made earlier out x h =
-        let one : d.globals structs all 0 earlier (x ∷ []) ≡ Ok out = single h in
-        globals_are structs all 0 earlier out (x ∷ []) one
+        let one : d.globals structs ts all 0 earlier (x ∷ []) ≡ Ok out = single h in
+        globals_are structs ts all 0 earlier out (x ∷ []) one
       where
-        single : d.one_global structs all earlier x ≡ Ok out → d.globals structs all 0 earlier (x ∷ []) ≡ Ok out
+        single : d.one_global structs ts all earlier x ≡ Ok out → d.globals structs ts all 0 earlier (x ∷ []) ≡ Ok out
         single h = rw h refl
 
 less : (n m : ℕ) → n < m → nat_lt n m ≡ true
@@ -174,37 +174,37 @@ function_at known names number (x ∷ xs) (suc n) f h e =
 -- what the checks of a program say of its globals and functions
 pub record Parts (p : Program) : Type 0 where
   pub structs : d.structs p.structs 0 [] p.structs ≡ Ok tt
-  pub globals : d.globals p.structs (globals_by_name p.globals) 0 [] p.globals ≡ Ok (globals_by_name p.globals)
+  pub globals : d.globals p.structs (targets_of p) (globals_by_name p.globals) 0 [] p.globals ≡ Ok (globals_by_name p.globals)
   pub heads : d.heads (globals_by_name p.globals) 0 [] p.functions ≡ Ok (functions_by_name p.functions)
   pub main : d.main 0 p.functions ≡ Ok tt
-  pub functions : d.functions (known_env p.structs (globals_by_name p.globals)) (functions_by_name p.functions) 0 p.functions ≡ Ok tt
+  pub functions : d.functions (known_env p.structs (targets_of p) (globals_by_name p.globals)) (functions_by_name p.functions) 0 p.functions ≡ Ok tt
 
 pub parts : (p : Program) → first_fault p ≡ None → Parts p
 unfolding first_fault checked
 parts p h =
     let every = no_fault (checked p) h in
     let a = first_passed (d.structs p.structs 0 [] p.structs) _ tt every in
-    let b = first_passed (d.globals p.structs (globals_by_name p.globals) 0 [] p.globals) _ tt a.2 in
+    let b = first_passed (d.globals p.structs (targets_of p) (globals_by_name p.globals) 0 [] p.globals) _ tt a.2 in
     let c = first_passed (d.heads b.0 0 [] p.functions) _ tt b.2 in
     let m = first_passed (d.main 0 p.functions) _ tt c.2 in
-    let variables : b.0 ≡ globals_by_name p.globals = globals_are p.structs (globals_by_name p.globals) 0 [] b.0 p.globals b.1 in
+    let variables : b.0 ≡ globals_by_name p.globals = globals_are p.structs (targets_of p) (globals_by_name p.globals) 0 [] b.0 p.globals b.1 in
     let callees : c.0 ≡ functions_by_name p.functions = heads_are b.0 0 [] c.0 p.functions c.1 in
     record {
       structs = a.1;
-      globals = subst (λ v. d.globals p.structs (globals_by_name p.globals) 0 [] p.globals ≡ Ok v) variables b.1;
+      globals = subst (λ v. d.globals p.structs (targets_of p) (globals_by_name p.globals) 0 [] p.globals ≡ Ok v) variables b.1;
       heads = subst (λ v. d.heads v 0 [] p.functions ≡ Ok (functions_by_name p.functions)) variables (subst (λ t. d.heads b.0 0 [] p.functions ≡ Ok t) callees c.1);
       main = m.1;
-      functions = subst (λ t. d.functions (known_env p.structs (globals_by_name p.globals)) t 0 p.functions ≡ Ok tt) callees (subst (λ v. d.functions (known_env p.structs v) c.0 0 p.functions ≡ Ok tt) variables m.2);
+      functions = subst (λ t. d.functions (known_env p.structs (targets_of p) (globals_by_name p.globals)) t 0 p.functions ≡ Ok tt) callees (subst (λ v. d.functions (known_env p.structs (targets_of p) v) c.0 0 p.functions ≡ Ok tt) variables m.2);
     }
 
 pub names_mean : (p : Program) (n : ℕ) (f : Function) → first_fault p ≡ None → slice_get p.functions n ≡ Some f → NamesMean p.globals f.locals
 unfolding d.one_function
 names_mean p n f h own = λ k g e.
     let a : Parts p = parts p h in
-    let r : IsFirst [] p.globals k g = global_first p.structs (globals_by_name p.globals) 0 [] (globals_by_name p.globals) p.globals a.globals k g e in
-    let one = function_at (known_env p.structs (globals_by_name p.globals)) (functions_by_name p.functions) 0 p.functions n f a.functions own in
-    let env = first_passed (at _ (d.own (known_env p.structs (globals_by_name p.globals)) (functions_by_name p.functions) f)) _ tt one.1 in
+    let r : IsFirst [] p.globals k g = global_first p.structs (targets_of p) (globals_by_name p.globals) 0 [] (globals_by_name p.globals) p.globals a.globals k g e in
+    let one = function_at (known_env p.structs (targets_of p) (globals_by_name p.globals)) (functions_by_name p.functions) 0 p.functions n f a.functions own in
+    let env = first_passed (at _ (d.own (known_env p.structs (targets_of p) (globals_by_name p.globals)) (functions_by_name p.functions) f)) _ tt one.1 in
     record {
-      free = own_free (known_env p.structs (globals_by_name p.globals)) env.0 (functions_by_name p.functions) f g.decl.name (at_passed _ (d.own (known_env p.structs (globals_by_name p.globals)) (functions_by_name p.functions) f) env.0 env.1) (global_listed p.globals k g e);
+      free = own_free (known_env p.structs (targets_of p) (globals_by_name p.globals)) env.0 (functions_by_name p.functions) f g.decl.name (at_passed _ (d.own (known_env p.structs (targets_of p) (globals_by_name p.globals)) (functions_by_name p.functions) f) env.0 env.1) (global_listed p.globals k g e);
       place = place_is p.globals k g e r.place;
     }

@@ -12,7 +12,8 @@ use Rattle.gimple_ir.specs.declared.operand.Operand.{Operand}
 use Rattle.gimple_ir.specs.declared.operand.Place.{Place}
 use Rattle.gimple_ir.specs.declared.declarations.Register.{Register}
 use Rattle.gimple_ir.specs.declared.statement.Stmt.{Stmt}
-use Rattle.gimple_ir.specs.declared.statement.Stmt.TheVariants.{Copy, Arith, Compare, Convert, Load, Store, Call, Get, Put, Abort}
+use Rattle.gimple_ir.specs.declared.statement.Signature.{Signature}
+use Rattle.gimple_ir.specs.declared.statement.Stmt.TheVariants.{Copy, Arith, Compare, Convert, Load, Store, Call, Indirect, Get, Put, Abort}
 use Rattle.gimple_ir.specs.declared.block.Case.{Case}
 use Rattle.gimple_ir.specs.declared.block.End.{End}
 use Rattle.gimple_ir.specs.declared.block.End.TheVariants.{Goto, If, Switch, Return}
@@ -22,7 +23,7 @@ use Rattle.gimple_core.specs.Memory.{same_scalar}
 use Rattle.std.specs.Str.{bytes_eq}
 use Rattle.gimple_core.specs.Run.{case_target, any_number}
 use Rattle.gimple_core.specs.Verdict.{Verdict, ◌>>◌, demand, found}
-use Rattle.gimple_core.specs.Env.{Env, named, registers_by_name, scalar_of}
+use Rattle.gimple_core.specs.Env.{Env, Targets, named, registers_by_name, scalar_of}
 use Rattle.gimple_core.specs.Statements as s
 use Rattle.gimple_core.proofs.Passed.{first_passed, both_pass, found_so}
 use Rattle.gimple_core.proofs.EnvLemmas.{named_find}
@@ -35,7 +36,7 @@ use Rattle.body_values.specs.Bodies.{register_scalar, scalar_or, target_of}
 use Rattle.body_values.specs.Flow.{labels_of}
 use Rattle.body_fold.specs.Fold.{Folding, value_of_constant, known_comparison, known_operand, constant_for, passes, is_put, put_or, folded_operand, folded_left, folded_right, right_check, formals_of, folded_arguments, place_on, folded_place, stored_place, with_operands, copy_or, with_result, folded_stmt, is_zero, goto_or, case_or, folded_end}
 use Rattle.body_fold.proofs.ConstantValues.{put_has}
-use Rattle.body_fold.proofs.Relabelled.{relabelled, returned_re, ends_compared, ends_integer}
+use Rattle.body_fold.proofs.Relabelled.{SameTargets, compared_seen, integer_seen, returned_seen}
 
 -- ---- what is put passes
 
@@ -97,16 +98,16 @@ module _ (p : Program) (f : Function) (S : Folding) (row : List AbsVal) (seen : 
 
   -- ---- calls
 
-  arguments_pass : (formals : List Register) (xs : List Operand) → s.arguments env formals xs ≡ Ok tt → s.arguments env formals (folded_arguments S row formals xs) ≡ Ok tt
+  arguments_pass : (formals : List Scalar) (xs : List Operand) → s.arguments env formals xs ≡ Ok tt → s.arguments env formals (folded_arguments S row formals xs) ≡ Ok tt
   unfolding s.arguments
   arguments_pass [] [] e = e
   arguments_pass (r ∷ rs) [] e = e
   arguments_pass [] (x ∷ xs) e = e
   arguments_pass (r ∷ rs) (x ∷ xs) e =
-      let a = first_passed (s.operand env 6 r.scalar x) _ tt e in
-      both_pass (s.operand env 6 r.scalar (folded_operand S row (s.operand env 6 r.scalar) x)) _ tt tt (put_passes (s.operand env 6 r.scalar) x (constant_for S.body row x) a.1) (arguments_pass rs xs a.2)
+      let a = first_passed (s.operand env 6 r x) _ tt e in
+      both_pass (s.operand env 6 r (folded_operand S row (s.operand env 6 r) x)) _ tt tt (put_passes (s.operand env 6 r) x (constant_for S.body row x) a.1) (arguments_pass rs xs a.2)
 
-  as_many : (formals : List Register) (xs : List Operand) → length (folded_arguments S row formals xs) ≡ length xs
+  as_many : (formals : List Scalar) (xs : List Operand) → length (folded_arguments S row formals xs) ≡ length xs
   as_many formals [] = refl
   as_many [] (x ∷ xs) = refl
   as_many (r ∷ rs) (x ∷ xs) = ap suc (as_many rs xs)
@@ -117,13 +118,31 @@ module _ (p : Program) (f : Function) (S : Folding) (row : List AbsVal) (seen : 
       let a = first_passed (s.target env to) _ tt e in
       let b = first_passed (found (named callee S.names) 1) _ tt a.2 in
       let c = first_passed (demand (length xs == length b.0.params) 5) _ tt b.2 in
-      let q = first_passed (s.arguments env b.0.params xs) _ tt c.2 in
-      let there : formals_of (named callee S.names) ≡ b.0.params = ap formals_of (found_so (named callee S.names) 1 b.0 b.1) in
+      let scalars : List Scalar = s.scalars_of b.0.params in
+      let q = first_passed (s.arguments env scalars xs) _ tt c.2 in
+      let there : formals_of (named callee S.names) ≡ scalars = ap formals_of (found_so (named callee S.names) 1 b.0 b.1) in
       let ys : List Operand = folded_arguments S row (formals_of (named callee S.names)) xs in
       both_pass (s.target env to) _ a.0 tt a.1
       (both_pass (found (named callee S.names) 1) _ b.0 tt b.1
       (both_pass (demand (length ys == length b.0.params) 5) _ tt tt (ap (λ m. demand (m == length b.0.params) 5) (as_many (formals_of (named callee S.names)) xs) ∙ c.1)
-      (both_pass (s.arguments env b.0.params ys) _ tt tt (subst (λ formals. s.arguments env b.0.params (folded_arguments S row formals xs) ≡ Ok tt) (sym there) (arguments_pass b.0.params xs q.1)) q.2)))
+      (both_pass (s.arguments env scalars ys) _ tt tt (subst (λ formals. s.arguments env scalars (folded_arguments S row formals xs) ≡ Ok tt) (sym there) (arguments_pass scalars xs q.1)) q.2)))
+
+  through_passes : (to : Option (List ℕ)) (signature : Signature) (callee : List ℕ) (xs : List Operand) → s.called_through env to signature callee xs ≡ Ok tt → s.called_through env to signature callee (folded_arguments S row signature.params xs) ≡ Ok tt
+  unfolding s.called_through
+  through_passes to signature callee xs e =
+      let a = first_passed (s.target env to) _ tt e in
+      let b = first_passed (found env.targets 1) _ tt a.2 in
+      let c = first_passed (scalar_of env callee) _ tt b.2 in
+      let d = first_passed (demand (s.is_pointer c.0) 4) _ tt c.2 in
+      let n = first_passed (demand (length xs == length signature.params) 5) _ tt d.2 in
+      let q = first_passed (s.arguments env signature.params xs) _ tt n.2 in
+      let ys : List Operand = folded_arguments S row signature.params xs in
+      both_pass (s.target env to) _ a.0 tt a.1
+      (both_pass (found env.targets 1) _ b.0 tt b.1
+      (both_pass (scalar_of env callee) _ c.0 tt c.1
+      (both_pass (demand (s.is_pointer c.0) 4) _ tt tt d.1
+      (both_pass (demand (length ys == length signature.params) 5) _ tt tt (ap (λ m. demand (m == length signature.params) 5) (as_many signature.params xs) ∙ n.1)
+      (both_pass (s.arguments env signature.params ys) _ tt tt (arguments_pass signature.params xs q.1) q.2)))))
 
   -- ---- statements
 
@@ -154,6 +173,7 @@ module _ (p : Program) (f : Function) (S : Folding) (row : List AbsVal) (seen : 
       let c = first_passed (s.place env at q) _ tt stored in
       both_pass (s.place env at q) _ tt tt c.1 (both_pass (demand (not (s.is_read_only env q.base)) 14) _ tt tt c.2 (put_passes (s.operand env 4 at) from (constant_for S.body row from) b.2))
   with_passes scalar (Call to callee xs) t e = called_passes to callee xs e
+  with_passes scalar (Indirect to signature callee xs) t e = through_passes to signature callee xs e
   with_passes scalar (Get to) t e = e
   with_passes scalar (Put from) t e = put_passes (s.printed env) from (constant_for S.body row from) e
   with_passes scalar Abort t e = e
@@ -190,6 +210,14 @@ module _ (p : Program) (f : Function) (S : Folding) (row : List AbsVal) (seen : 
       let b = first_passed (scalar_of env to) _ a.0 a.1 in
       result_passes j i (Call (Some to) callee xs) to b.0 refl b.1 e
 
+  indirect_passes : (j i : ℕ) (to : Option (List ℕ)) (signature : Signature) (callee : List ℕ) (xs : List Operand) → s.statement env S.names (Indirect to signature callee xs) ≡ Ok tt → s.statement env S.names (folded_stmt S j i row (Indirect to signature callee xs)) ≡ Ok tt
+  unfolding s.statement s.called_through folded_stmt
+  indirect_passes j i None signature callee xs e = plain_passes j i (Indirect None signature callee xs) refl e
+  indirect_passes j i (Some to) signature callee xs e =
+      let a = first_passed (s.target env (Some to)) _ tt e in
+      let b = first_passed (scalar_of env to) _ a.0 a.1 in
+      result_passes j i (Indirect (Some to) signature callee xs) to b.0 refl b.1 e
+
   pub stmt_passes : (j i : ℕ) (x : Stmt) → s.statement env S.names x ≡ Ok tt → s.statement env S.names (folded_stmt S j i row x) ≡ Ok tt
   unfolding s.statement folded_stmt
   stmt_passes j i (Copy to from) e = let a = first_passed (scalar_of env to) _ tt e in result_passes j i (Copy to from) to a.0 refl a.1 e
@@ -199,6 +227,7 @@ module _ (p : Program) (f : Function) (S : Folding) (row : List AbsVal) (seen : 
   stmt_passes j i (Load to from place) e = let a = first_passed (scalar_of env to) _ tt e in result_passes j i (Load to from place) to a.0 refl a.1 e
   stmt_passes j i (Store at place from) e = plain_passes j i (Store at place from) refl e
   stmt_passes j i (Call to callee xs) e = call_passes j i to callee xs e
+  stmt_passes j i (Indirect to signature callee xs) e = indirect_passes j i to signature callee xs e
   stmt_passes j i (Get to) e = let a = first_passed (scalar_of env to) _ tt e in result_passes j i (Get to) to a.0 refl a.1 e
   stmt_passes j i (Put from) e = plain_passes j i (Put from) refl e
   stmt_passes j i Abort e = plain_passes j i Abort refl e
@@ -287,16 +316,19 @@ cases_pass known (c ∷ cs) other h =
     let more = cases_pass known cs other (λ slot label e. h (suc slot) label e) in
     (both_pass (s.label known c.target) _ tt tt (h 0 c.target refl) more.0, more.1)
 
--- with other labels an end passes where its labels do
-pub ending_re : (known : Env) (ls : List ℕ) (e : End) → s.ending known e ≡ Ok tt → LabelsPass (relabelled known ls) e → s.ending (relabelled known ls) e ≡ Ok tt
-unfolding s.ending
-ending_re known ls (Goto to) h l = l 0 to refl
-ending_re known ls (If left cmp right hit miss) h l =
-    let a = first_passed (s.compared known left cmp right) _ tt h in
-    both_pass (s.compared (relabelled known ls) left cmp right) _ tt tt (ends_compared known ls left cmp right ∙ a.1) (both_pass (s.label (relabelled known ls) hit) _ tt tt (l 0 hit refl) (l 1 miss refl))
-ending_re known ls (Switch on cases other) h l =
-    let a = first_passed (s.integer known on) _ tt h in
-    let b = first_passed (s.case_values a.0 [] cases) _ tt a.2 in
-    let c = cases_pass (relabelled known ls) cases other l in
-    both_pass (s.integer (relabelled known ls) on) _ a.0 tt (ends_integer known ls on ∙ a.1) (both_pass (s.case_values a.0 [] cases) _ tt tt b.1 (both_pass (s.case_labels (relabelled known ls) cases) _ tt tt c.0 c.1))
-ending_re known ls (Return x) h l = returned_re known ls x known.result ∙ h
+-- with other labels, and other functions of the same names that may be addressed, an end passes where its labels do
+module _ (known : Env) (ts : Targets) (ls : List ℕ) (h : SameTargets ts known.targets) where
+  pub ending_seen : (e : End) → s.ending known e ≡ Ok tt → LabelsPass (record known { targets = ts; labels = ls }) e → s.ending (record known { targets = ts; labels = ls }) e ≡ Ok tt
+  unfolding s.ending
+  ending_seen (Goto to) p l = l 0 to refl
+  ending_seen (If left cmp right hit miss) p l =
+      let a = first_passed (s.compared known left cmp right) _ tt p in
+      both_pass (s.compared (record known { targets = ts; labels = ls }) left cmp right) _ tt tt (compared_seen known ts ls h left cmp right ∙ a.1)
+      (both_pass (s.label (record known { targets = ts; labels = ls }) hit) _ tt tt (l 0 hit refl) (l 1 miss refl))
+  ending_seen (Switch on cases other) p l =
+      let a = first_passed (s.integer known on) _ tt p in
+      let b = first_passed (s.case_values a.0 [] cases) _ tt a.2 in
+      let c = cases_pass (record known { targets = ts; labels = ls }) cases other l in
+      both_pass (s.integer (record known { targets = ts; labels = ls }) on) _ a.0 tt (integer_seen known ts ls h on ∙ a.1)
+      (both_pass (s.case_values a.0 [] cases) _ tt tt b.1 (both_pass (s.case_labels (record known { targets = ts; labels = ls }) cases) _ tt tt c.0 c.1))
+  ending_seen (Return x) p l = returned_seen known ts ls h x known.result ∙ p

@@ -9,7 +9,6 @@ use Rattle.gimple_ir.specs.declared.operand.Operand.TheVariants.{Reg, Number, Nu
 use Rattle.gimple_ir.specs.declared.operand.Base.{Base}
 use Rattle.gimple_ir.specs.declared.operand.Base.TheVariants.{Reg as RegBase, Variable}
 use Rattle.gimple_ir.specs.declared.operand.Place.{Place}
-use Rattle.gimple_ir.specs.declared.declarations.Register.{Register}
 use Rattle.gimple_ir.specs.declared.declarations.Global.{Global as GlobalDef}
 use Rattle.gimple_ir.specs.declared.value.Object.TheVariants.{Global as GlobalObject}
 use Rattle.gimple_ir.specs.declared.value.Value.{Value}
@@ -18,7 +17,7 @@ use Rattle.gimple_ir.specs.declared.value.TrapKind.{TrapKind}
 use Rattle.gimple_ir.specs.declared.value.Constant.{Constant}
 use Rattle.gimple_ir.specs.declared.value.Constant.TheVariants.{Int, Null, Global}
 use Rattle.gimple_ir.specs.declared.statement.Stmt.{Stmt}
-use Rattle.gimple_ir.specs.declared.statement.Stmt.TheVariants.{Copy, Arith, Compare, Convert, Load, Store, Call, Get, Put, Abort}
+use Rattle.gimple_ir.specs.declared.statement.Stmt.TheVariants.{Copy, Arith, Compare, Convert, Load, Store, Call, Indirect, Get, Put, Abort}
 use Rattle.gimple_ir.specs.declared.block.Case.{Case}
 use Rattle.gimple_ir.specs.declared.block.Block.{Block}
 use Rattle.gimple_ir.specs.declared.block.End.{End}
@@ -34,7 +33,6 @@ use Rattle.gimple_claims.specs.Kept.{new_blocks}
 use Rattle.fix_engine.specs.declared.lifted.Lifted.{Lifted}
 use Rattle.fix_engine.specs.declared.lifted.Lifted.TheVariants.{NotReached, Reached}
 use Rattle.value_domain.specs.declared.abs_val.AbsVal.{AbsVal}
-use Rattle.value_domain.specs.ConstantOperators.{is_pointer}
 use Rattle.value_domain.specs.AbsOperators.{first_constant, known_of, may_trap_of}
 use Rattle.value_domain.specs.Holding.{constant_of}
 use Rattle.body_values.specs.Bodies.{Body, register_scalar, is_local, global_place, operand_value, right_scalar, sides_scalar, compare_value, target_of, result_value}
@@ -100,7 +98,7 @@ compared_constant B row left cmp right = both_known (known_operand B row left) (
 -- the result of a statement whose operands are all known, for a target of this scalar; where it traps there is none
 unfoldable pub evaluated : Body → List AbsVal → Scalar → Stmt → Option Constant
 evaluated B row scalar (Copy to from) = known_operand B row from
-evaluated B row scalar (Arith to left op right) = both_known (known_operand B row left) (known_operand B row right) (λ v w. result_constant (arith_of scalar v op w))
+evaluated B row scalar (Arith to left op right) = both_known (known_operand B row left) (known_operand B row right) (λ v w. result_constant (arith_of B.mode scalar v op w))
 evaluated B row scalar (Compare to left cmp right) = compared_constant B row left cmp right
 evaluated B row scalar (Convert to target from) = one_known (known_operand B row from) (λ v. constant_of (converted target v))
 evaluated B row scalar x = None
@@ -108,7 +106,7 @@ evaluated B row scalar x = None
 -- whether a statement has a result that can be known by its value, and cannot trap
 unfoldable pub never_traps : Body → List AbsVal → Scalar → Stmt → Bool
 never_traps B row scalar (Copy to from) = true
-never_traps B row scalar (Arith to left op right) = not (may_trap_of op scalar (operand_value B row scalar left) (operand_value B row (right_scalar B scalar op right) right))
+never_traps B row scalar (Arith to left op right) = not (may_trap_of B.mode op scalar (operand_value B row scalar left) (operand_value B row (right_scalar B scalar op right) right))
 never_traps B row scalar (Compare to left cmp right) = true
 never_traps B row scalar (Convert to target from) = true
 never_traps B row scalar x = false
@@ -143,7 +141,7 @@ folded_operand S row check x = put_or check x (constant_for S.body row x)
 
 -- the check of the right side of an operator
 abbrev pub right_check : Env → Scalar → Op → Operand → Verdict (Unit {0})
-right_check env scalar op y = if is_pointer scalar then check.operand env 4 I64 y else check.right_side env scalar op y
+right_check env scalar op y = if check.is_pointer scalar then check.operand env 4 I64 y else check.right_side env scalar op y
 
 -- in a comparison the right side is put, and only where it is not, the left one
 unfoldable pub folded_right : Folding → List AbsVal → Operand → Cmp → Operand → Operand
@@ -153,15 +151,16 @@ unfoldable pub folded_left : Folding → List AbsVal → Operand → Cmp → Ope
 folded_left S row left cmp right =
     if is_put (λ y. check.compared S.env left cmp y) (constant_for S.body row right) then left else folded_operand S row (λ y. check.compared S.env y cmp right) left
 
-abbrev pub formals_of : Option Function → List Register
+-- the scalars of the formals of a function; of none there are none
+abbrev pub formals_of : Option Function → List Scalar
 formals_of None = []
-formals_of (Some g) = g.params
+formals_of (Some g) = check.scalars_of g.params
 
--- each argument, checked against its formal
-abbrev pub folded_arguments : Folding → List AbsVal → List Register → List Operand → List Operand
+-- each argument, checked against the scalar of its formal
+abbrev pub folded_arguments : Folding → List AbsVal → List Scalar → List Operand → List Operand
 folded_arguments S row formals [] = []
 folded_arguments S row [] (x ∷ xs) = x ∷ xs
-folded_arguments S row (r ∷ rs) (x ∷ xs) = folded_operand S row (check.operand S.env 6 r.scalar) x ∷ folded_arguments S row rs xs
+folded_arguments S row (scalar ∷ scalars) (x ∷ xs) = folded_operand S row (check.operand S.env 6 scalar) x ∷ folded_arguments S row scalars xs
 
 -- ---- bases
 
@@ -198,6 +197,7 @@ with_operands S row scalar (Convert to target from) = Convert to target from
 with_operands S row scalar (Load to from place) = Load to from (folded_place S row (check.place S.env from) place)
 with_operands S row scalar (Store at place from) = Store at (folded_place S row (stored_place S.env at) place) (folded_operand S row (check.operand S.env 4 at) from)
 with_operands S row scalar (Call to callee xs) = Call to callee (folded_arguments S row (formals_of (named callee S.names)) xs)
+with_operands S row scalar (Indirect to signature callee xs) = Indirect to signature callee (folded_arguments S row signature.params xs)
 with_operands S row scalar (Get to) = Get to
 with_operands S row scalar (Put from) = Put (folded_operand S row (check.printed S.env) from)
 with_operands S row scalar Abort = Abort

@@ -1,7 +1,6 @@
 -- What the code puts in the place of operands and places.
 use Rattle.std.specs.Prelude.{Bool, true, false, if◌then◌else◌, List, Option, Some, None}
 use Rattle.gimple_ir.specs.declared.scalar.Scalar.{Scalar}
-use Rattle.gimple_ir.specs.declared.declarations.Register.{Register}
 use Rattle.gimple_ir.specs.declared.operand.Operand.{Operand}
 use Rattle.gimple_ir.specs.declared.operand.Place.{Place}
 use Rattle.gimple_core.specs.Verdict.{Verdict}
@@ -17,10 +16,10 @@ abbrev pub put_in : {X : Type 0} → (X → Verdict (Unit {0})) → Option X →
 put_in check None = None
 put_in check (Some y) = if passes (check y) then Some y else None
 
--- an argument against its formal
-abbrev pub argument_of : Folding → List AbsVal → Option Register → Operand → Operand
+-- an argument against the scalar of its formal
+abbrev pub argument_of : Folding → List AbsVal → Option Scalar → Operand → Operand
 argument_of S row None x = x
-argument_of S row (Some r) x = folded_operand S row (check.operand S.env 6 r.scalar) x
+argument_of S row (Some scalar) x = folded_operand S row (check.operand S.env 6 scalar) x
 
 -- whether an access writes
 abbrev pub is_store : Access → Bool
