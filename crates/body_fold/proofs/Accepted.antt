@@ -11,34 +11,35 @@ use Rattle.gimple_ir.specs.declared.block.Block.{Block}
 use Rattle.gimple_ir.specs.declared.block.End.{End}
 use Rattle.gimple_ir.specs.declared.program.Function.{Function}
 use Rattle.gimple_ir.specs.declared.program.Program.{Program}
+use Rattle.gimple_core.specs.Sealed.{Sealed}
 use Rattle.gimple_ir.specs.declared.fault.Site.TheVariants as site
-use Rattle.gimple_core.specs.Run.{main_name, block_place, place_or}
+use Rattle.gimple_core.specs.Run.{main_name, labelled}
 use Rattle.gimple_core.specs.Verdict.{◌>>◌, demand, at}
-use Rattle.gimple_core.specs.Env.{Env, Names, has, globals_by_name, functions_by_name}
+use Rattle.gimple_core.specs.Env.{Env, Names, Targets, has, targets_of, globals_by_name, functions_by_name}
 use Rattle.gimple_core.specs.Statements as s
 use Rattle.gimple_core.specs.Declarations as d
 use Rattle.gimple_core.specs.Accepted.{checked, first_fault, known_env}
 use Rattle.gimple_core.proofs.Passed.{first_passed, both_pass, demanded, demand_passes, at_passed, at_passes, no_fault_of}
 use Rattle.gimple_core.proofs.EnvLemmas.{has_append, named_find, declared_new, declares}
-use Rattle.gimple_core.proofs.KeptAccepted.{heads_are}
+use Rattle.gimple_core.proofs.Heads.{heads_are}
 use Rattle.gimple_core.proofs.ProgramTyped.{labels_are}
 use Rattle.gimple_claims.specs.Checks.{env_of, StmtsPass, BlockPasses, BlocksPass}
 use Rattle.gimple_claims.specs.Kept.{new_body, new_blocks}
-use Rattle.gimple_claims.proofs.Checked.{ok_same}
+use Rattle.gimple_claims.proofs.Blocks.{label_there}
 use Rattle.gimple_claims.proofs.Kept.{NewAt, kept_new}
 use Rattle.fix_engine.specs.declared.lifted.Lifted.{Lifted}
 use Rattle.fix_engine.specs.declared.lifted.Lifted.TheVariants.{NotReached, Reached}
 use Rattle.value_domain.specs.declared.abs_val.AbsVal.{AbsVal}
 use Rattle.body_values.specs.declared.facts.Facts.{Facts}
-use Rattle.body_values.specs.Flow.{body_of, values_at}
+use Rattle.body_values.specs.Flow.{block_place, place_or, body_of, values_at}
 use Rattle.body_fold.specs.Fold.{Folding, stmt_at, end_at, new_stmt, new_end, IsLinked, first, linked}
 use Rattle.body_fold.specs.Claims.{replaced, FoldIsAccepted}
 use Rattle.body_fold.proofs.FoldsBy.{folding_of, FoldsBy, folds_by}
 use Rattle.body_fold.proofs.Names.{Parts, parts, function_at}
-use Rattle.body_fold.proofs.Relabelled.{relabelled, statement_re, heads_of, SameHeads, statement_heads, own_same, function_same}
+use Rattle.body_fold.proofs.Relabelled.{seen_with, SameTargets, statement_seen, heads_of, SameHeads, statement_heads, same_targets, globals_same, own_labels, own_seen, function_seen}
 use Rattle.gimple_claims.proofs.Checked.{sees, blocks_pass}
-use Rattle.body_fold.proofs.Passing.{stmt_passes, end_passes, LabelsPass, ending_listed, ending_re}
-use Rattle.body_fold.proofs.Labels.{labelled, block_listed, labels_kept}
+use Rattle.body_fold.proofs.Passing.{stmt_passes, end_passes, LabelsPass, ending_listed, ending_seen}
+use Rattle.body_fold.proofs.Labels.{block_number, block_listed, labels_kept}
 
 -- ---- one function replaced by one that looks alike from outside
 
@@ -216,14 +217,14 @@ module _ (q : Sealed) (n : ℕ) (f : Function) (facts : Facts) (most : ℕ) (ts 
     block_passes (x ∷ xs) zero b h e = let same : x ≡ b = cc in subst (BlockPasses (env_of p f) (functions_by_name p.functions)) same h.0
     block_passes (x ∷ xs) (suc j) b h e = block_passes xs j b h.1 e
 
-    new_listed : (b : Block) (m : ℕ) (o : Option Block) → NewAt put end m b o → (c : Block) × (o ≡ Some c)
-    new_listed b m o h = (h.block, h.found)
+    new_listed : (b : Block) (m : ℕ) (o : Option (ℕ × Block)) → NewAt put end m b o → (c : ℕ × Block) × (o ≡ Some c)
+    new_listed b m o h = ((h.number, h.block), h.found)
 
     label_kept : (ls : List ℕ) (label : ℕ) → ls ≡ map (λ (b : Block). b.label) new → s.label (env_of p f) label ≡ Ok tt → keep (place_or (block_place label f.blocks)) ≡ true → s.label (seen ls) label ≡ Ok tt
     unfolding s.label
     label_kept ls label e h k =
-        let b = labelled label f.blocks (demanded _ 8 h) in
-        let c = new_listed b.0 (place_or (block_place label f.blocks)) _ (kept_new put end keep label f.blocks b.0 b.1 k) in
+        let (m, b, there) = label_there label f.blocks (demanded _ 8 h) in
+        let c = new_listed b m _ (kept_new put end keep label f.blocks m b there (subst (λ j. keep j ≡ true) (block_number label f.blocks m b there) k)) in
         demand_passes _ 8 (ap (λ qs. list_any (λ l. label == l) qs) e ∙ block_listed label new c.0 c.1)
 
     ends_pass : (ls : List ℕ) → ls ≡ map (λ (b : Block). b.label) new → BlocksPass (env_of p f) (functions_by_name p.functions) f.blocks → EndsPass ls 0 f.blocks
@@ -238,7 +239,7 @@ module _ (q : Sealed) (n : ℕ) (f : Function) (facts : Facts) (most : ℕ) (ts 
 
     -- the folded function passes
     pub one_passes : (number index : ℕ) → d.one_function (known_env p.structs (targets_of p) (globals_by_name p.globals)) (functions_by_name p.functions) number f ≡ Ok tt →
-        d.one_function (known_env p.structs (targets_of p) (globals_by_name p.globals)) names index (record f { blocks = new }) ≡ Ok tt
+        d.one_function (known_env p.structs us (globals_by_name p.globals)) names index (record f { blocks = new }) ≡ Ok tt
     unfolding d.one_function
     one_passes number index h =
         let known : Env = known_env p.structs (targets_of p) (globals_by_name p.globals) in
@@ -247,37 +248,39 @@ module _ (q : Sealed) (n : ℕ) (f : Function) (facts : Facts) (most : ℕ) (ts 
         let sight = sees known a.0 (functions_by_name p.functions) f own in
         let same : a.0 ≡ env_of p f = sight.same in
         let blocks : BlocksPass (env_of p f) (functions_by_name p.functions) f.blocks = subst (λ e. BlocksPass e (functions_by_name p.functions) f.blocks) same (blocks_pass a.0 (functions_by_name p.functions) number 1 f.blocks a.2) in
-        let old = labels_of_function known a.0 (functions_by_name p.functions) f own in
-        let ls = labels_kept put end keep 0 [] [] old.0 f.blocks (λ l q. q) old.1 in
+        let ls = labels_kept put end keep 0 [] [] a.0.labels f.blocks (λ l q. q) (own_labels known a.0 (functions_by_name p.functions) f own) in
         let are : ls.0 ≡ map (λ (b : Block). b.label) new = labels_are [] ls.0 new ls.1 in
-        let seen : d.own known names (record f { blocks = new }) ≡ Ok (seen ls.0) =
-        own_same names (functions_by_name p.functions) heads known (record f { blocks = new })
-        ∙ own_folded known (env_of p f) (functions_by_name p.functions) f new ls.0 (own ∙ ap Ok same) (some_new f.blocks sight.some (keep 0) refl (kept 0 first)) ls.1 in
-        both_pass (at (site.Statement index 0) (d.own known names (record f { blocks = new }))) _ (seen ls.0) tt (at_passes _ (d.own known names (record f { blocks = new })) _ seen)
+        let now : Env = known_env p.structs us (globals_by_name p.globals) in
+        let sees_this : d.own now names (record f { blocks = new }) ≡ Ok (seen ls.0) =
+        own_seen names (functions_by_name p.functions) heads us known (env_of p f) f new ls.0 (own ∙ ap Ok same) (some_new f.blocks sight.some (keep 0) refl (kept 0 first)) ls.1 in
+        both_pass (at (site.Statement index 0) (d.own now names (record f { blocks = new }))) _ (seen ls.0) tt (at_passes _ (d.own now names (record f { blocks = new })) _ sees_this)
         (blocks_new ls.0 index 1 0 f.blocks blocks (ends_pass ls.0 are blocks))
 
 -- ---- the whole program
 
-accepted_by : (p : Program) (n : ℕ) (f : Function) (facts : Facts) (most : ℕ) (ts : List ℤ) (xs : List (Lifted (List AbsVal))) (g : Function) → FoldsBy p n f facts most ts xs g → first_fault (replaced p n g) ≡ None
+accepted_by : (q : Sealed) (n : ℕ) (f : Function) (facts : Facts) (most : ℕ) (ts : List ℤ) (xs : List (Lifted (List AbsVal))) (g : Function) → FoldsBy q n f facts most ts xs g → first_fault (replaced q n g).program ≡ None
 unfolding first_fault checked
-accepted_by p n f facts most ts xs g folds =
+accepted_by q n f facts most ts xs g folds =
+    let p : Program = q.program in
     let a : Parts p = parts p folds.values.accepted in
     let known : Env = known_env p.structs (targets_of p) (globals_by_name p.globals) in
     let gs : List Function = slice_set p.functions n g in
+    let us : Targets = targets_of (replaced q n g).program in
     let alike : Alike p.functions gs = set_faces p.functions n f g folds.own (ap face folds.folded.is) in
     let heads : SameHeads (functions_by_name gs) (functions_by_name p.functions) = tables_alike p.functions gs alike in
+    let same : SameTargets us (targets_of p) = same_targets (p.profile == 2) (functions_by_name gs) (functions_by_name p.functions) heads in
     let table = heads_alike (globals_by_name p.globals) 0 [] [] (functions_by_name p.functions) p.functions gs alike (λ name. refl) a.heads in
     let table_is : table.0 ≡ functions_by_name gs = heads_are (globals_by_name p.globals) 0 [] table.0 gs table.1 in
     let one = function_at known (functions_by_name p.functions) 0 p.functions n f a.functions folds.own in
-    let folded : (k : ℕ) → d.one_function known (functions_by_name gs) k g ≡ Ok tt = λ k.
-    subst (λ (z : Function). d.one_function known (functions_by_name gs) k z ≡ Ok tt) (sym folds.folded.is)
-    (one_passes p n f facts most ts (values_at (body_of p n f facts most ts) f.blocks xs) (functions_by_name gs) heads folds.folded.keep (λ k. (folds.folded.kept k).1) (λ k. (folds.folded.kept k).0) one.0 k one.1) in
-    no_fault_of (checked (replaced p n g))
+    let folded : (k : ℕ) → d.one_function (known_env p.structs us (globals_by_name p.globals)) (functions_by_name gs) k g ≡ Ok tt = λ k.
+    subst (λ (z : Function). d.one_function (known_env p.structs us (globals_by_name p.globals)) (functions_by_name gs) k z ≡ Ok tt) (sym folds.folded.is)
+    (one_passes q n f facts most ts (values_at (body_of q n f facts most ts) f.blocks xs) (functions_by_name gs) heads us same folds.folded.keep (λ k. (folds.folded.kept k).1) (λ k. (folds.folded.kept k).0) one.0 k one.1) in
+    no_fault_of (checked (replaced q n g).program)
     (both_pass (d.structs p.structs 0 [] p.structs) _ tt tt a.structs
-    (both_pass (d.globals p.structs (globals_by_name p.globals) 0 [] p.globals) _ (globals_by_name p.globals) tt a.globals
+    (both_pass (d.globals p.structs us (globals_by_name p.globals) 0 [] p.globals) _ (globals_by_name p.globals) tt (globals_same p.structs us (targets_of p) same (globals_by_name p.globals) 0 [] p.globals ∙ a.globals)
     (both_pass (d.heads (globals_by_name p.globals) 0 [] gs) _ (functions_by_name gs) tt (table.1 ∙ ap Ok table_is)
     (both_pass (d.main 0 gs) _ tt tt (main_alike 0 p.functions gs alike ∙ a.main)
-    (functions_set known (functions_by_name gs) (functions_by_name p.functions) 0 p.functions n f g heads folds.own a.functions folded)))))
+    (functions_set known (functions_by_name gs) (functions_by_name p.functions) heads us same 0 p.functions n f g folds.own a.functions folded)))))
 
 pub fold_is_accepted : FoldIsAccepted
 fold_is_accepted p n f facts t g folds = accepted_by p n f facts t.limits.size t.limits.ends folds.values.begins g (folds_by p n f facts t g folds)

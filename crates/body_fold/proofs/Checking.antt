@@ -1,8 +1,10 @@
 -- What the checks of operands ask for.
-use Rattle.std.proofs.Common.{◌≡◌, ℕ, ℤ, Bool, true, false, not, cond, ◌||◌, ◌&&◌, if◌then◌else◌, List, [], ◌∷◌, ◌++◌, map, refl, sym, ◌∙◌, ap, Option, Some, None, Ok, Err}
+use Rattle.std.proofs.Common.{◌≡◌, ℕ, ℤ, pos, Bool, true, false, not, cond, ◌||◌, ◌&&◌, if◌then◌else◌, List, [], ◌∷◌, ◌++◌, map, refl, sym, ◌∙◌, ap, Option, Some, None, Ok, Err}
 use Rattle.std.specs.Prelude.{is_some}
 use Rattle.std.specs.List.{find, list_any}
+use Rattle.std.specs.Ordering.{int_eq}
 use Rattle.std.specs.Str.{bytes_eq}
+use Rattle.std.proofs.lemmas.Bool.Decides.{Decides-int_eq}
 use Rattle.std.proofs.lemmas.List.{map-append}
 use Rattle.gimple_ir.specs.declared.scalar.Scalar.{Scalar}
 use Rattle.gimple_ir.specs.declared.scalar.Scalar.TheVariants.{I8, I16, I32, I64, U8, U16, U32, U64, Ptr}
@@ -18,14 +20,13 @@ use Rattle.gimple_ir.specs.declared.program.Program.{Program}
 use Rattle.gimple_core.specs.Memory.{same_scalar}
 use Rattle.gimple_core.specs.Operators.{in_scalar}
 use Rattle.gimple_core.specs.Verdict.{Verdict, ◌>>=◌, ◌>>◌, demand}
-use Rattle.gimple_core.specs.Env.{Env, named, has, is_variable, scalar_of}
+use Rattle.gimple_core.specs.Env.{Env, named, has, is_target, is_variable, scalar_of}
 use Rattle.gimple_core.specs.Statements as s
 use Rattle.gimple_core.proofs.EnvLemmas.{same_test as same_key, named_find}
 use Rattle.gimple_claims.specs.Checks.{env_of}
-use Rattle.value_domain.specs.ConstantOperators.{is_pointer}
 use Rattle.body_values.specs.Bodies.{Body, register_scalar, is_local, right_scalar, sides_scalar}
-use Rattle.body_values.proofs.Held.{same_test}
 use Rattle.body_fold.specs.Fold.{passes, put_or, right_check}
+use Rattle.body_fold.specs.Putting.{address_passes}
 use Rattle.body_fold.proofs.Passing.{own_scalar}
 
 pub passes_demand : (b : Bool) (code : ℕ) → passes (demand b code) ≡ b
@@ -78,21 +79,39 @@ register_is p f rs name e =
 -- ---- an operand
 
 module _ (env : Env) where
-  pub number_is : (code : ℕ) (scalar : Scalar) (z : ℤ) → passes (s.operand env code scalar (Number z)) ≡ (not (is_pointer scalar) && in_scalar scalar z)
+  pub number_is : (code : ℕ) (scalar : Scalar) (z : ℤ) → passes (s.operand env code scalar (Number z)) ≡ (not (s.is_pointer scalar) && in_scalar scalar z)
   unfolding s.operand
   number_is code scalar z =
       passes_then (demand (not (s.is_pointer scalar)) code) (demand (in_scalar scalar z) 13)
-      ∙ (λ i. (passes_demand (not (s.is_pointer scalar)) code ∙ ap not (same_test scalar)) i && passes_demand (in_scalar scalar z) 13 i)
+      ∙ (λ i. passes_demand (not (s.is_pointer scalar)) code i && passes_demand (in_scalar scalar z) 13 i)
 
-  pub null_is : (code : ℕ) (scalar : Scalar) → passes (s.operand env code scalar Null) ≡ is_pointer scalar
+  pub null_is : (code : ℕ) (scalar : Scalar) → passes (s.operand env code scalar Null) ≡ s.is_pointer scalar
   unfolding s.operand
-  null_is code scalar = passes_demand (s.is_pointer scalar) code ∙ same_test scalar
+  null_is code scalar = passes_demand (s.is_pointer scalar) code
 
-  pub address_is : (code : ℕ) (scalar : Scalar) (name : List ℕ) (offset : ℤ) → passes (s.operand env code scalar (Address name offset)) ≡ (is_pointer scalar && (is_variable env name && in_scalar I64 offset))
+  -- a variable, or a function at no offset
+  address_by : (variable target : Bool) (offset : ℤ) (zero : Bool) → int_eq offset (pos 0) ≡ zero →
+      ((variable || target) && (in_scalar I64 offset && (variable || zero))) ≡ (if variable then in_scalar I64 offset else (zero && target))
+  address_by true target offset zero e = and_true (in_scalar I64 offset) true refl
+  address_by false true offset true e = and_true (in_scalar I64 offset) true refl ∙ ap (in_scalar I64) ((Decides-int_eq offset (pos 0)).0 e)
+  address_by false true offset false e = and_false (in_scalar I64 offset) true
+  address_by false false offset true e = refl
+  address_by false false offset false e = refl
+
+  abbrev address_checks : List ℕ → ℤ → Verdict (Unit {0})
+  address_checks name offset = demand (is_variable env name || is_target env.targets name) 1 >> (demand (in_scalar I64 offset) 13 >> demand (is_variable env name || int_eq offset (pos 0)) 11)
+
+  checks_are : (name : List ℕ) (offset : ℤ) → passes (address_checks name offset) ≡ address_passes env name offset
+  checks_are name offset =
+      passes_then (demand (is_variable env name || is_target env.targets name) 1) (demand (in_scalar I64 offset) 13 >> demand (is_variable env name || int_eq offset (pos 0)) 11)
+      ∙ ((λ i. passes_demand (is_variable env name || is_target env.targets name) 1 i
+      && (passes_then (demand (in_scalar I64 offset) 13) (demand (is_variable env name || int_eq offset (pos 0)) 11)
+      ∙ (λ j. passes_demand (in_scalar I64 offset) 13 j && passes_demand (is_variable env name || int_eq offset (pos 0)) 11 j)) i)
+      ∙ address_by (is_variable env name) (is_target env.targets name) offset (int_eq offset (pos 0)) refl)
+
+  pub address_is : (code : ℕ) (scalar : Scalar) (name : List ℕ) (offset : ℤ) → passes (s.operand env code scalar (Address name offset)) ≡ (s.is_pointer scalar && address_passes env name offset)
   unfolding s.operand
-  address_is code scalar name offset =
-      passes_then (demand (s.is_pointer scalar) code) (demand (is_variable env name) 1 >> demand (in_scalar I64 offset) 13)
-      ∙ (λ i. null_is code scalar i && (passes_then (demand (is_variable env name) 1) (demand (in_scalar I64 offset) 13) ∙ (λ j. passes_demand (is_variable env name) 1 j && passes_demand (in_scalar I64 offset) 13 j)) i)
+  address_is code scalar name offset = passes_then (demand (s.is_pointer scalar) code) (address_checks name offset) ∙ (λ i. null_is code scalar i && checks_are name offset i)
 
   own_by : (code : ℕ) (scalar own : Scalar) (v : Verdict Scalar) → v ≡ Ok own → passes (v >>= (λ x. demand (same_scalar x scalar) code)) ≡ same_scalar own scalar
   own_by code scalar own v e = rw e (passes_demand (same_scalar own scalar) code)
@@ -153,28 +172,27 @@ module _ (p : Program) (f : Function) where
     -- ---- a register that holds an integer
 
     abbrev integer_passes : Scalar → Operand → Bool
-    integer_passes scalar x = passes (s.operand env 4 scalar x) && not (is_pointer scalar)
+    integer_passes scalar x = passes (s.operand env 4 scalar x) && not (s.is_pointer scalar)
 
     integer_by : (name : List ℕ) (v : Verdict Scalar) → scalar_of env name ≡ v → passes (v >>= (λ own. demand (not (s.is_pointer own)) 4)) ≡ integer_passes (scalar_in name) (Reg name)
     integer_by name (Ok own) e =
         passes_demand (not (s.is_pointer own)) 4
-        ∙ (ap not (same_test own)
-        ∙ ((λ i. sym (own_is env 4 own own name e ∙ same_self own) i && not (is_pointer own)) ∙ ap (λ z. integer_passes z (Reg name)) (scalar_is name own e)))
-    integer_by name (Err wrong) e = λ i. sym (lost env 4 wrong (scalar_in name) name e) i && not (is_pointer (scalar_in name))
+        ∙ ((λ i. sym (own_is env 4 own own name e ∙ same_self own) i && not (s.is_pointer own)) ∙ ap (λ z. integer_passes z (Reg name)) (scalar_is name own e))
+    integer_by name (Err wrong) e = λ i. sym (lost env 4 wrong (scalar_in name) name e) i && not (s.is_pointer (scalar_in name))
 
     integer_is : (name : List ℕ) → passes (scalar_of env name >>= (λ own. demand (not (s.is_pointer own)) 4)) ≡ integer_passes (scalar_in name) (Reg name)
     integer_is name = integer_by name (scalar_of env name) refl
 
     -- ---- the right side of an operator
 
-    plain : (scalar : Scalar) (x : Operand) → is_pointer scalar ≡ false → passes (s.operand env 4 scalar x) ≡ integer_passes scalar x
-    plain scalar x e = sym (and_true (passes (s.operand env 4 scalar x)) (not (is_pointer scalar)) (ap not e))
+    plain : (scalar : Scalar) (x : Operand) → s.is_pointer scalar ≡ false → passes (s.operand env 4 scalar x) ≡ integer_passes scalar x
+    plain scalar x e = sym (and_true (passes (s.operand env 4 scalar x)) (not (s.is_pointer scalar)) (ap not e))
 
     abbrev count_in : Scalar → Operand → Scalar
     count_in scalar (Reg name) = scalar_in name
     count_in scalar x = scalar
 
-    count_is : (scalar : Scalar) (x : Operand) → is_pointer scalar ≡ false → passes (s.count env scalar x) ≡ integer_passes (count_in scalar x) x
+    count_is : (scalar : Scalar) (x : Operand) → s.is_pointer scalar ≡ false → passes (s.count env scalar x) ≡ integer_passes (count_in scalar x) x
     unfolding s.count
     count_is scalar (Reg name) e = integer_is name
     count_is scalar (Number z) e = plain scalar (Number z) e
@@ -183,9 +201,9 @@ module _ (p : Program) (f : Function) where
 
     pub right_is : (scalar : Scalar) (op : Op) (x : Operand) → passes (right_check env scalar op x) ≡ integer_passes (right_scalar B scalar op x) x
     unfolding s.right_side
-    right_is scalar op x = by (is_pointer scalar) refl (s.is_shift op)
+    right_is scalar op x = by (s.is_pointer scalar) refl (s.is_shift op)
       where
-        by : (b : Bool) → is_pointer scalar ≡ b → (shift : Bool) →
+        by : (b : Bool) → s.is_pointer scalar ≡ b → (shift : Bool) →
             passes (if b then s.operand env 4 I64 x else (if shift then s.count env scalar x else s.operand env 4 scalar x)) ≡ integer_passes (if b then I64 else (if shift then count_in scalar x else scalar)) x
         by true e shift = plain I64 x refl
         by false e true = count_is scalar x e
@@ -194,7 +212,7 @@ module _ (p : Program) (f : Function) where
     -- ---- comparisons
 
     abbrev sides_pass : Scalar → Operand → Cmp → Operand → Bool
-    sides_pass scalar left cmp right = passes (s.operand env 4 scalar left) && (passes (s.operand env 4 scalar right) && (not (is_pointer scalar) || not (s.is_order cmp)))
+    sides_pass scalar left cmp right = passes (s.operand env 4 scalar left) && (passes (s.operand env 4 scalar right) && (not (s.is_pointer scalar) || not (s.is_order cmp)))
 
     ordered : (a b : Bool) → passes (demand (not (a && b)) 4) ≡ (not a || not b)
     ordered true b = passes_demand (not b) 4
@@ -208,26 +226,26 @@ module _ (p : Program) (f : Function) where
         passes_then (s.operand env 4 scalar left) (s.operand env 4 scalar right >> demand (not (s.is_pointer scalar && s.is_order cmp)) 4)
         ∙ (λ i. passes (s.operand env 4 scalar left)
         && (passes_then (s.operand env 4 scalar right) (demand (not (s.is_pointer scalar && s.is_order cmp)) 4)
-        ∙ (λ j. passes (s.operand env 4 scalar right) && (ordered (s.is_pointer scalar) (s.is_order cmp) ∙ ap (λ b. not b || not (s.is_order cmp)) (same_test scalar)) j)) i)
+        ∙ (λ j. passes (s.operand env 4 scalar right) && ordered (s.is_pointer scalar) (s.is_order cmp) j)) i)
 
     first_by : (name : List ℕ) (cmp : Cmp) (right : Operand) (v : Verdict Scalar) → scalar_of env name ≡ v → passes (v >>= checks (Reg name) cmp right) ≡ sides_pass (scalar_in name) (Reg name) cmp right
     first_by name cmp right (Ok own) e = both_sides own (Reg name) cmp right ∙ ap (λ z. sides_pass z (Reg name) cmp right) (scalar_is name own e)
-    first_by name cmp right (Err wrong) e = λ i. sym (lost env 4 wrong (scalar_in name) name e) i && (passes (s.operand env 4 (scalar_in name) right) && (not (is_pointer (scalar_in name)) || not (s.is_order cmp)))
+    first_by name cmp right (Err wrong) e = λ i. sym (lost env 4 wrong (scalar_in name) name e) i && (passes (s.operand env 4 (scalar_in name) right) && (not (s.is_pointer (scalar_in name)) || not (s.is_order cmp)))
 
     second_by : (left : Operand) (cmp : Cmp) (name : List ℕ) (v : Verdict Scalar) → scalar_of env name ≡ v → passes (v >>= checks left cmp (Reg name)) ≡ sides_pass (scalar_in name) left cmp (Reg name)
     second_by left cmp name (Ok own) e = both_sides own left cmp (Reg name) ∙ ap (λ z. sides_pass z left cmp (Reg name)) (scalar_is name own e)
     second_by left cmp name (Err wrong) e =
-        sym (and_false (passes (s.operand env 4 (scalar_in name) left)) (not (is_pointer (scalar_in name)) || not (s.is_order cmp)))
-        ∙ (λ i. passes (s.operand env 4 (scalar_in name) left) && (sym (lost env 4 wrong (scalar_in name) name e) i && (not (is_pointer (scalar_in name)) || not (s.is_order cmp))))
+        sym (and_false (passes (s.operand env 4 (scalar_in name) left)) (not (s.is_pointer (scalar_in name)) || not (s.is_order cmp)))
+        ∙ (λ i. passes (s.operand env 4 (scalar_in name) left) && (sym (lost env 4 wrong (scalar_in name) name e) i && (not (s.is_pointer (scalar_in name)) || not (s.is_order cmp))))
 
     -- neither side is a register
     number_first : (z : ℤ) (cmp : Cmp) (right : Operand) → false ≡ sides_pass Ptr (Number z) cmp right
-    number_first z cmp right = λ i. sym (number_is env 4 Ptr z) i && (passes (s.operand env 4 Ptr right) && (not (is_pointer Ptr) || not (s.is_order cmp)))
+    number_first z cmp right = λ i. sym (number_is env 4 Ptr z) i && (passes (s.operand env 4 Ptr right) && (not (s.is_pointer Ptr) || not (s.is_order cmp)))
 
     number_second : (left : Operand) (cmp : Cmp) (z : ℤ) → false ≡ sides_pass Ptr left cmp (Number z)
     number_second left cmp z =
-        sym (and_false (passes (s.operand env 4 Ptr left)) (not (is_pointer Ptr) || not (s.is_order cmp)))
-        ∙ (λ i. passes (s.operand env 4 Ptr left) && (sym (number_is env 4 Ptr z) i && (not (is_pointer Ptr) || not (s.is_order cmp))))
+        sym (and_false (passes (s.operand env 4 Ptr left)) (not (s.is_pointer Ptr) || not (s.is_order cmp)))
+        ∙ (λ i. passes (s.operand env 4 Ptr left) && (sym (number_is env 4 Ptr z) i && (not (s.is_pointer Ptr) || not (s.is_order cmp))))
 
     pub compared_is : (left : Operand) (cmp : Cmp) (right : Operand) → passes (s.compared env left cmp right) ≡ sides_pass (sides_scalar B left right) left cmp right
     unfolding s.compared s.common_scalar

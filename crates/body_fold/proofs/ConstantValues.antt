@@ -5,7 +5,7 @@ use Rattle.gimple_ir.specs.declared.scalar.Scalar.TheVariants.{I8, I16, I32, I64
 use Rattle.gimple_ir.specs.declared.value.Object.{Object}
 use Rattle.gimple_ir.specs.declared.value.Object.TheVariants.{Global as GlobalObject, Local as LocalObject}
 use Rattle.gimple_ir.specs.declared.value.Value.{Value}
-use Rattle.gimple_ir.specs.declared.value.Value.TheVariants.{Int as IntValue, Null as NullValue, At}
+use Rattle.gimple_ir.specs.declared.value.Value.TheVariants.{Int as IntValue, Null as NullValue, At, Code}
 use Rattle.gimple_ir.specs.declared.value.Constant.{Constant}
 use Rattle.gimple_ir.specs.declared.value.Constant.TheVariants.{Int, Null, Global}
 use Rattle.gimple_ir.specs.declared.operand.Operand.{Operand}
@@ -13,14 +13,12 @@ use Rattle.gimple_ir.specs.declared.operand.Operand.TheVariants.{Number, Null as
 use Rattle.gimple_ir.specs.declared.operand.Base.TheVariants.{Variable}
 use Rattle.gimple_ir.specs.declared.operand.Place.{Place}
 use Rattle.gimple_ir.specs.declared.declarations.Global.{Global as GlobalDef}
-use Rattle.gimple_core.specs.declared.machine.Cell.{Cell}
 use Rattle.gimple_core.specs.Operators.{in_scalar, wrapped}
 use Rattle.gimple_core.specs.Memory.{moved_by}
-use Rattle.gimple_core.specs.State.{Scope, number_in, offset_in}
+use Rattle.gimple_core.specs.State.{Scope, number_in, offset_in, is_of}
 use Rattle.gimple_core.specs.Run.{value_of, place_value, address_of, address_of_global, global_address}
 use Rattle.gimple_core.specs.Verdict.{Verdict}
 use Rattle.gimple_core.proofs.RangeLemmas.{wrapped_in}
-use Rattle.gimple_claims.specs.Typed.{is_of}
 use Rattle.value_domain.specs.AbsOperators.{first_constant}
 use Rattle.value_domain.specs.Holding.{constant_of}
 use Rattle.body_values.proofs.Operands.{from_begin, local_free}
@@ -34,6 +32,7 @@ constant_is (IntValue z) c e = let same : Int z ≡ c = cc in ap value_of_consta
 constant_is NullValue c e = let same : Null ≡ c = cc in ap value_of_constant same
 constant_is (At (GlobalObject k) offset) c e = let same : Global k offset ≡ c = cc in ap value_of_constant same
 constant_is (At (LocalObject serial k) offset) c e = cc
+constant_is (Code name) c e = cc
 
 typed_offset : (scalar : Scalar) (object : Object) (z : ℤ) → is_of scalar (At object z) ≡ true → in_scalar I64 z ≡ true
 typed_offset I8 object z h = cc
@@ -67,12 +66,12 @@ offset_same z h = offset_by z (in_scalar I64 z) refl h
 
 -- ---- names
 
-module _ (globals : List GlobalDef) (scope : Scope) (cells : List Cell) (mean : NamesMean globals scope.locals) where
+module _ (globals : List GlobalDef) (scope : Scope) (values : List Value) (mean : NamesMean globals scope.locals) where
   address_at : (k : ℕ) (g : GlobalDef) → slice_get globals k ≡ Some g → address_of globals scope g.decl.name ≡ At (GlobalObject k) (pos 0)
   unfolding address_of_global
   address_at k g e =
       let m : Means globals scope.locals k g = mean k g e in
-      local_free globals scope g.decl.name m.free ∙ ap global_address m.place
+      local_free globals scope g.decl.name m.free ∙ ap (global_address g.decl.name) m.place
 
   moved_at : (k : ℕ) (g : GlobalDef) (offset : ℤ) → slice_get globals k ≡ Some g → moved_by (address_of globals scope g.decl.name) (offset_in offset) ≡ At (GlobalObject k) (offset_in offset)
   unfolding moved_by
@@ -80,27 +79,27 @@ module _ (globals : List GlobalDef) (scope : Scope) (cells : List Cell) (mean : 
       let there : address_of globals scope g.decl.name ≡ At (GlobalObject k) (pos 0) = address_at k g e in
       ap (λ v. moved_by v (offset_in offset)) there ∙ ap (λ z. At (GlobalObject k) z) (from_begin offset)
 
-  address_value : (k : ℕ) (offset : ℤ) (y : Operand) → in_scalar I64 offset ≡ true → (o : Option GlobalDef) → slice_get globals k ≡ o → address_in o offset ≡ Some y → value_of globals scope cells y ≡ At (GlobalObject k) offset
+  address_value : (k : ℕ) (offset : ℤ) (y : Operand) → in_scalar I64 offset ≡ true → (o : Option GlobalDef) → slice_get globals k ≡ o → address_in o offset ≡ Some y → value_of globals scope values y ≡ At (GlobalObject k) offset
   address_value k offset y h None e f = cc
   address_value k offset y h (Some g) e f =
       let same : Address g.decl.name offset ≡ y = cc in
-      ap (value_of globals scope cells) (sym same) ∙ (moved_at k g offset e ∙ ap (λ z. At (GlobalObject k) z) (offset_same offset h))
+      ap (value_of globals scope values) (sym same) ∙ (moved_at k g offset e ∙ ap (λ z. At (GlobalObject k) z) (offset_same offset h))
 
   -- the operand of a constant has its value
-  pub constant_value : (c : Constant) (y : Operand) → OffsetFits c → constant_operand globals (Some c) ≡ Some y → value_of globals scope cells y ≡ value_of_constant c
+  pub constant_value : (c : Constant) (y : Operand) → OffsetFits c → constant_operand globals (Some c) ≡ Some y → value_of globals scope values y ≡ value_of_constant c
   unfolding constant_operand
-  constant_value (Int z) y h e = let same : Number z ≡ y = cc in ap (value_of globals scope cells) (sym same)
-  constant_value Null y h e = let same : NullOperand ≡ y = cc in ap (value_of globals scope cells) (sym same)
+  constant_value (Int z) y h e = let same : Number z ≡ y = cc in ap (value_of globals scope values) (sym same)
+  constant_value Null y h e = let same : NullOperand ≡ y = cc in ap (value_of globals scope values) (sym same)
   constant_value (Global k offset) y h e = address_value k offset y h (slice_get globals k) refl e
 
-  place_at : (k : ℕ) (z : ℤ) (q : Place) → (o : Option GlobalDef) → slice_get globals k ≡ o → place_in o (wrapped I64 z) ≡ Some q → place_value globals scope cells q ≡ At (GlobalObject k) (wrapped I64 z)
+  place_at : (k : ℕ) (z : ℤ) (q : Place) → (o : Option GlobalDef) → slice_get globals k ≡ o → place_in o (wrapped I64 z) ≡ Some q → place_value globals scope values q ≡ At (GlobalObject k) (wrapped I64 z)
   place_at k z q None e f = cc
   place_at k z q (Some g) e f =
       let same : record { base = Variable g.decl.name; offset = wrapped I64 z } ≡ q = cc in
-      ap (place_value globals scope cells) (sym same) ∙ (moved_at k g (wrapped I64 z) e ∙ ap (λ y. At (GlobalObject k) y) (offset_same (wrapped I64 z) (wrapped_in I64 z)))
+      ap (place_value globals scope values) (sym same) ∙ (moved_at k g (wrapped I64 z) e ∙ ap (λ y. At (GlobalObject k) y) (offset_same (wrapped I64 z) (wrapped_in I64 z)))
 
   -- the place at an offset from the address of a global
-  pub from_value : (c : Constant) (offset : ℤ) (q : Place) → place_from globals (Some c) offset ≡ Some q → place_value globals scope cells q ≡ moved_by (value_of_constant c) (offset_in offset)
+  pub from_value : (c : Constant) (offset : ℤ) (q : Place) → place_from globals (Some c) offset ≡ Some q → place_value globals scope values q ≡ moved_by (value_of_constant c) (offset_in offset)
   unfolding moved_by
   from_value (Int z) offset q e = cc
   from_value Null offset q e = cc

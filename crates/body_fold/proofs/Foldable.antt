@@ -9,12 +9,13 @@ use Rattle.gimple_ir.specs.declared.declarations.Register.{Register}
 use Rattle.gimple_ir.specs.declared.declarations.StructDef.{StructDef}
 use Rattle.gimple_ir.specs.declared.program.Function.{Function}
 use Rattle.gimple_ir.specs.declared.program.Program.{Program}
+use Rattle.gimple_core.specs.Sealed.{Sealed}
 use Rattle.gimple_core.specs.Layout.{layout_of}
 use Rattle.std.specs.Str.{bytes_eq}
 use Rattle.gimple_core.specs.Accepted.{IsAccepted}
 use Rattle.gimple_ir.specs.Size.{size_of_function, size_of_program}
 use Rattle.gimple_core.specs.Verdict.{at}
-use Rattle.gimple_core.specs.Env.{Env, functions_by_name, globals_by_name}
+use Rattle.gimple_core.specs.Env.{Env, targets_of, functions_by_name, globals_by_name}
 use Rattle.gimple_core.specs.Declarations as d
 use Rattle.gimple_core.specs.Accepted.{known_env}
 use Rattle.gimple_core.proofs.Passed.{first_passed, at_passed}
@@ -51,7 +52,7 @@ checked_function : (p : Program) (n : ℕ) (f : Function) → IsAccepted p → s
 unfolding d.one_function
 checked_function p n f h own =
     let a : Parts p = parts p h in
-    let known : Env = known_env p.structs (globals_by_name p.globals) in
+    let known : Env = known_env p.structs (targets_of p) (globals_by_name p.globals) in
     let one = function_at known (functions_by_name p.functions) 0 p.functions n f a.functions own in
     let e = first_passed (at _ (d.own known (functions_by_name p.functions) f)) _ tt one.1 in
     let k = sees known e.0 (functions_by_name p.functions) f (at_passed _ (d.own known (functions_by_name p.functions) f) e.0 e.1) in
@@ -72,17 +73,17 @@ function_within (x ∷ fs) (suc k) f e = let rest = function_within fs k f e in 
 same_function : {f g : Function} → Some f ≡ Some g → f ≡ g
 same_function e = cc
 
-pub number_within : (p : Program) (n : ℕ) (t : Found) → WereFound p n t → n < length p.functions
-number_within p n t w = slice_get_within p.functions n w.function w.own
+pub number_within : (p : Sealed) (n : ℕ) (t : Found) → WereFound p n t → n < length p.program.functions
+number_within p n t w = slice_get_within p.program.functions n w.function w.own
 
-pub foldable : (p : Program) (n : ℕ) (f : Function) (t : Found) → slice_get p.functions n ≡ Some f → IsAccepted p → length p.globals < 2 ^ 32 → size_of_program p < 2 ^ 32 → WereFound p n t → IsFoldable p n f t
+pub foldable : (p : Sealed) (n : ℕ) (f : Function) (t : Found) → slice_get p.program.functions n ≡ Some f → IsAccepted p.program → length p.program.globals < 2 ^ 32 → size_of_program p.program < 2 ^ 32 → WereFound p n t → IsFoldable p n f t
 foldable p n f t own accepted globals size w =
     let same : w.function ≡ f = same_function (sym w.own ∙ own) in
     record {
       own = own;
       accepted = accepted;
       globals = globals;
-      size = let within = function_within p.functions n f own in omega (arith, within, size);
+      size = let within = function_within p.program.functions n f own in omega (arith, within, size);
       facts = w.facts;
       fit = subst (λ (g : Function). FactsFit g w.facts t.limits.size t.limits.ends) same w.fit;
       ends = w.ends;
@@ -94,9 +95,9 @@ foldable p n f t own accepted globals size w =
 abbrev AreSmall : List StructDef → List Global → Type 0
 AreSmall structs globals = (name : List ℕ) (g : Global) → find (λ g. bytes_eq g.decl.name name) globals ≡ Some g → (layout_of structs g.decl).size ≤ 2 ^ 24
 
-module _ (s : Folder) (p : Program) (n : ℕ) (f : Function) (t : Found) (h : IsFolderOf s p f t) (g : IsFoldable p n f t) where
+module _ (s : Folder) (p : Sealed) (n : ℕ) (f : Function) (t : Found) (h : IsFolderOf s p f t) (g : IsFoldable p n f t) where
   law : IsLawful t.limits.ends
-  law = subst IsLawful (sym g.ends) (list_lawful p)
+  law = subst IsLawful (sym g.ends) (list_lawful p.program)
 
   registers_are : s.scene.registers.now ≡ f.params ++ f.registers
   registers_are = h.registers ∙ g.found.registers
@@ -104,19 +105,19 @@ module _ (s : Folder) (p : Program) (n : ℕ) (f : Function) (t : Found) (h : Is
   ready : IsReady s.scene
   ready = record {
     few = subst (λ (gs : List Global). length gs < 2 ^ 32) (sym h.globals) g.globals;
-    small = subst (λ (gs : List Global). AreSmall s.scene.structs.now gs) (sym h.globals) (subst (λ (ss : List StructDef). AreSmall ss p.globals) (sym h.structs) (λ name x e. (global_layout p g.accepted name x e).size));
+    small = subst (λ (gs : List Global). AreSmall s.scene.structs.now gs) (sym h.globals) (subst (λ (ss : List StructDef). AreSmall ss p.program.globals) (sym h.structs) (λ name x e. (global_layout p.program g.accepted name x e).size));
     loads = λ k i. subst (λ loads. IfSome (given_load loads s.scene.loads.now.function k i) (FitsWith s.scene.limits.now.size s.scene.limits.now.ends)) (sym h.loads) tt;
   }
 
   pub is_folder : IsFolder s
   is_folder = record {
     tables = h.tables ∙ sym h.program;
-    structs = h.structs ∙ ap (λ (q : Program). q.structs) (sym h.program);
-    globals = h.globals ∙ ap (λ (q : Program). q.globals) (sym h.program);
+    structs = h.structs ∙ ap (λ (q : Sealed). q.program.structs) (sym h.program);
+    globals = h.globals ∙ ap (λ (q : Sealed). q.program.globals) (sym h.program);
     locals = h.locals ∙ ap (λ (x : Function). x.locals) (sym h.function);
     registers = registers_are ∙ ap (λ (x : Function). x.params ++ x.registers) (sym h.function);
     ready = ready;
-    mean = subst (λ (q : Program). NamesMean q.globals s.function.now.locals) (sym h.program) (subst (λ (x : Function). NamesMean p.globals x.locals) (sym h.function) (names_mean p n f g.accepted g.own));
+    mean = subst (λ (q : Sealed). NamesMean q.program.globals s.function.now.locals) (sym h.program) (subst (λ (x : Function). NamesMean p.program.globals x.locals) (sym h.function) (names_mean p.program n f g.accepted g.own));
   }
 
   pub points_fit : PointsFit s.scene t
@@ -127,13 +128,13 @@ module _ (s : Folder) (p : Program) (n : ℕ) (f : Function) (t : Found) (h : Is
   pub are_numbered : AreFew s.function.now.blocks 0
   are_numbered = subst (λ (x : Function). AreFew x.blocks 0) (sym h.function) (are_few f.blocks 0 g.size (omega arith))
 
-  checked : IsChecked p f
-  checked = checked_function p n f g.accepted g.own
+  checked : IsChecked p.program f
+  checked = checked_function p.program n f g.accepted g.own
 
   pub blocks_checked : BlocksPass (folding_in s).env (folding_in s).names s.function.now.blocks
   blocks_checked =
-      subst (λ (q : Program). BlocksPass (env_of q s.function.now) (functions_by_name q.functions) s.function.now.blocks) (sym h.program)
-      (subst (λ (x : Function). BlocksPass (env_of p x) (functions_by_name p.functions) x.blocks) (sym h.function) checked.blocks)
+      subst (λ (q : Sealed). BlocksPass (env_of q.program s.function.now) (functions_by_name q.program.functions) s.function.now.blocks) (sym h.program)
+      (subst (λ (x : Function). BlocksPass (env_of p.program x) (functions_by_name p.program.functions) x.blocks) (sym h.function) checked.blocks)
 
   some : 0 < length s.function.now.blocks
   some = subst (λ (x : Function). 0 < length x.blocks) (sym h.function) (some_blocks f.blocks checked.some)
@@ -148,11 +149,12 @@ module _ (s : Folder) (p : Program) (n : ℕ) (f : Function) (t : Found) (h : Is
 
   is_folding : folding_in s ≡ folding_by p f t.limits
   is_folding = λ i. record {
-    env = env_of (h.program i) (h.function i);
-    names = functions_by_name (h.program i).functions;
+    env = env_of (h.program i).program (h.function i);
+    names = functions_by_name (h.program i).program.functions;
     body = record {
       structs = h.structs i;
       globals = h.globals i;
+      mode = (h.program i).mode;
       locals = h.locals i;
       registers = registers_are i;
       most = (h.limits i).size;

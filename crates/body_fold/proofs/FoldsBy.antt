@@ -2,12 +2,12 @@
 use Rattle.std.proofs.Common.{◌≡◌, ℕ, suc, ◌+◌, ◌<◌, ℤ, Bool, true, if◌then◌else◌, List, [], ◌∷◌, length, refl, sym, ◌∙◌, ap, subst, arith, Option, Some, None, slice_get}
 use Rattle.std.proofs.lemmas.Bool.{le-leb}
 use Rattle.gimple_ir.specs.declared.statement.Stmt.{Stmt}
-use Rattle.gimple_ir.specs.declared.statement.Stmt.TheVariants.{Copy, Arith, Compare, Convert, Load, Store, Call, Get, Put, Abort}
+use Rattle.gimple_ir.specs.declared.statement.Stmt.TheVariants.{Copy, Arith, Compare, Convert, Load, Store, Call, Indirect, Get, Put, Abort}
 use Rattle.gimple_ir.specs.declared.block.Block.{Block}
 use Rattle.gimple_ir.specs.declared.block.End.{End}
 use Rattle.gimple_ir.specs.declared.block.End.TheVariants.{Goto, If, Switch, Return}
 use Rattle.gimple_ir.specs.declared.program.Function.{Function}
-use Rattle.gimple_ir.specs.declared.program.Program.{Program}
+use Rattle.gimple_core.specs.Sealed.{Sealed}
 use Rattle.gimple_core.specs.Env.{functions_by_name}
 use Rattle.gimple_claims.specs.Checks.{env_of}
 use Rattle.gimple_claims.specs.Kept.{new_body, new_blocks}
@@ -23,12 +23,12 @@ use Rattle.body_fold.specs.Claims.{Folds}
 use Rattle.body_fold.specs.Fold.{Folding, known_register, known_operand, compared_constant, evaluated, never_traps, known_result, constant_for, folded_right, folded_left, folded_place, with_operands, folded_stmt, known_comparison, folded_end, stmt_at, end_at, new_stmt, new_end, IsLinked, first, linked, IsFolded}
 use Rattle.body_fold.specs.Folders.{folding_by}
 
-abbrev pub folding_of : Program → ℕ → Function → Facts → ℕ → List ℤ → Folding
-folding_of p n f facts most ts = record { env = env_of p f; names = functions_by_name p.functions; body = body_of p n f facts most ts }
+abbrev pub folding_of : Sealed → ℕ → Function → Facts → ℕ → List ℤ → Folding
+folding_of p n f facts most ts = record { env = env_of p.program f; names = functions_by_name p.program.functions; body = body_of p n f facts most ts }
 
 -- The function of this number of a program without a type fault, folded by a solution of its system.
-pub record FoldsBy (p : Program) (n : ℕ) (f : Function) (facts : Facts) (most : ℕ) (ts : List ℤ) (xs : List (Lifted (List AbsVal))) (g : Function) : Type 0 where
-  pub own : slice_get p.functions n ≡ Some f
+pub record FoldsBy (p : Sealed) (n : ℕ) (f : Function) (facts : Facts) (most : ℕ) (ts : List ℤ) (xs : List (Lifted (List AbsVal))) (g : Function) : Type 0 where
+  pub own : slice_get p.program.functions n ≡ Some f
   pub values : Analysed p n f facts most ts xs
   pub folded : IsFolded (folding_of p n f facts most ts) (values_at (body_of p n f facts most ts) f.blocks xs) f g
 
@@ -48,6 +48,8 @@ module _ (S : Folding) (loads : ℕ → ℕ → Option AbsVal) where
   stmt_alike k i row (Store at place from) = refl
   stmt_alike k i row (Call None callee xs) = refl
   stmt_alike k i row (Call (Some to) callee xs) = refl
+  stmt_alike k i row (Indirect None signature callee xs) = refl
+  stmt_alike k i row (Indirect (Some to) signature callee xs) = refl
   stmt_alike k i row (Get to) = refl
   stmt_alike k i row (Put from) = refl
   stmt_alike k i row Abort = refl
@@ -95,7 +97,7 @@ linked_alike bs end last h _ (linked k b slot label r e l) = linked k b slot lab
 
 -- ---- by the values that were found
 
-module _ (p : Program) (n : ℕ) (f : Function) (facts : Facts) (t : Found) (found : AreFound p n f facts t.limits t) where
+module _ (p : Sealed) (n : ℕ) (f : Function) (facts : Facts) (t : Found) (found : AreFound p n f facts t.limits t) where
   abbrev S : Folding
   S = folding_by p f t.limits
 
@@ -147,7 +149,7 @@ module _ (p : Program) (n : ℕ) (f : Function) (facts : Facts) (t : Found) (fou
 same_function : {f g : Function} → Some f ≡ Some g → f ≡ g
 same_function e = cc
 
-pub folds_by : (p : Program) (n : ℕ) (f : Function) (facts : Facts) (t : Found) (g : Function) (folds : Folds p n f facts t g) → FoldsBy p n f facts t.limits.size t.limits.ends folds.values.begins g
+pub folds_by : (p : Sealed) (n : ℕ) (f : Function) (facts : Facts) (t : Found) (g : Function) (folds : Folds p n f facts t g) → FoldsBy p n f facts t.limits.size t.limits.ends folds.values.begins g
 folds_by p n f facts t g folds =
     let same : folds.folded.function ≡ f = same_function (sym folds.folded.own ∙ folds.own) in
     let by : IsFolded (folding_by p f t.limits) (λ k i. found_row t.rows k i) f g = subst (λ (h : Function). IsFolded (folding_by p h t.limits) (λ k i. found_row t.rows k i) h g) same folds.folded.folded in

@@ -7,7 +7,7 @@ use Rattle.gimple_ir.specs.declared.scalar.Cmp.{Cmp}
 use Rattle.gimple_ir.specs.declared.operand.Operand.{Operand}
 use Rattle.gimple_ir.specs.declared.operand.Operand.TheVariants.{Reg, Number, Null as NullOperand, Address}
 use Rattle.gimple_ir.specs.declared.statement.Stmt.{Stmt}
-use Rattle.gimple_ir.specs.declared.statement.Stmt.TheVariants.{Copy, Arith, Compare, Convert, Load, Store, Call, Get, Put, Abort}
+use Rattle.gimple_ir.specs.declared.statement.Stmt.TheVariants.{Copy, Arith, Compare, Convert, Load, Store, Call, Indirect, Get, Put, Abort}
 use Rattle.gimple_core.specs.Verdict.{◌>>◌, demand}
 use Rattle.gimple_core.specs.Env.{Env, scalar_of}
 use Rattle.gimple_core.specs.Statements as check
@@ -15,7 +15,6 @@ use Rattle.gimple_core.proofs.Passed.{first_passed, demanded}
 use Rattle.gimple_core.proofs.ScalarLemmas.{same_scalar_true, pointer_is}
 use Rattle.fix_engine.specs.Lattice.{AreAlike}
 use Rattle.value_domain.specs.declared.abs_val.AbsVal.{AbsVal}
-use Rattle.value_domain.specs.ConstantOperators.{is_pointer}
 use Rattle.value_domain.specs.Thresholds.{IsLawful}
 use Rattle.value_domain.specs.Holding.{IsOf, IsAllowed}
 use Rattle.value_domain.specs.Values.{FitsWith, FitsAbsVal, kind_of}
@@ -27,7 +26,6 @@ use Rattle.body_values.specs.Bodies.{Body, register_scalar, count_scalar, operan
 use Rattle.body_values.specs.Rising.{two, allowed_is}
 use Rattle.body_values.specs.Scenes.{body_in, Fit, IsGoodIn}
 use Rattle.body_values.specs.System.{kind_is}
-use Rattle.body_values.proofs.Held.{same_test}
 use Rattle.body_values.proofs.Written.{good_value}
 use Rattle.body_fold.specs.declared.folder.Folder.{Folder}
 use Rattle.body_fold.specs.Fold.{never_traps, target_scalar}
@@ -68,18 +66,18 @@ module _ (s : Scene) (row : List AbsVal) (law : IsLawful s.limits.now.ends) (fit
   arith_good scalar left op right =
       let x = operand_good scalar left in
       let y = operand_good (right_scalar B scalar op right) right in
-      choose (is_lawful op scalar (right_scalar B scalar op right)) scalar _ _ (λ l. op_fits B.most B.ends law op scalar (right_scalar B scalar op right) (allowed_is B scalar op right l) _ _ x.0 x.1 y.0 y.1) (top_fits B.most B.ends law scalar)
+      choose (is_lawful op scalar (right_scalar B scalar op right)) scalar _ _ (λ l. op_fits B.most B.ends law B.mode op scalar (right_scalar B scalar op right) (allowed_is B scalar op right l) _ _ x.0 x.1 y.0 y.1) (top_fits B.most B.ends law scalar)
 
   compare_good : (target scalar : Scalar) (left : Operand) (cmp : Cmp) (right : Operand) → Good target (compare_value B row target scalar left cmp right)
   unfolding compare_value
   compare_good target scalar left cmp right =
-      choose (not (is_pointer target) && may_compare cmp scalar) target _ _ (λ l. cmp_fits B.most B.ends law target cmp scalar (not_so _ (two _ _ l).0) _ _) (top_fits B.most B.ends law target)
+      choose (not (check.is_pointer target) && may_compare cmp scalar) target _ _ (λ l. cmp_fits B.most B.ends law target cmp scalar (not_so _ (two _ _ l).0) _ _) (top_fits B.most B.ends law target)
 
   convert_good : (target source : Scalar) (from : Operand) → Good target (convert_value B row target source from)
   unfolding convert_value
   convert_good target source from =
       let x = operand_good source from in
-      choose (not (is_pointer target) && not (is_pointer source)) target _ _ (λ l. let q = two _ _ l in convert_fits B.most B.ends law target source (not_so _ q.0) (not_so _ q.1) _ x.0 x.1) (top_fits B.most B.ends law target)
+      choose (not (check.is_pointer target) && not (check.is_pointer source)) target _ _ (λ l. let q = two _ _ l in convert_fits B.most B.ends law target source (not_so _ q.0) (not_so _ q.1) _ x.0 x.1) (top_fits B.most B.ends law target)
 
   -- what a comparison gives is of the scalar of the target
   pub compared_of : (target : Scalar) (left : Operand) (cmp : Cmp) (right : Operand) (v : AbsVal) → v ≡ compare_value B row target (sides_scalar B left right) left cmp right → IsOf target v
@@ -98,26 +96,26 @@ module _ (s : Folder) (h : IsFolder s) where
   env = (folding_in s).env
 
   own : (name : List ℕ) (scalar : Scalar) → scalar_of env name ≡ Ok scalar → register_scalar S.registers name ≡ scalar
-  own name scalar e = ap (λ rs. register_scalar rs name) h.registers ∙ own_scalar s.scene.program.now s.function.now name scalar e
+  own name scalar e = ap (λ rs. register_scalar rs name) h.registers ∙ own_scalar s.scene.program.now.program s.function.now name scalar e
 
-  count_plain : (scalar : Scalar) (x : Operand) → not (is_pointer scalar) ≡ true → check.count env scalar x ≡ Ok tt → not (is_pointer (count_scalar S scalar x)) ≡ true
+  count_plain : (scalar : Scalar) (x : Operand) → not (check.is_pointer scalar) ≡ true → check.count env scalar x ≡ Ok tt → not (check.is_pointer (count_scalar S scalar x)) ≡ true
   unfolding check.count
   count_plain scalar (Reg name) q e =
       let a = first_passed (scalar_of env name) _ tt e in
-      ap (λ z. not (is_pointer z)) (own name a.0 a.1) ∙ (ap not (sym (same_test a.0)) ∙ demanded _ 4 a.2)
+      ap (λ z. not (check.is_pointer z)) (own name a.0 a.1) ∙ demanded _ 4 a.2
   count_plain scalar (Number z) q e = q
   count_plain scalar NullOperand q e = q
   count_plain scalar (Address name offset) q e = q
 
-  right_plain : (scalar : Scalar) (op : Op) (x : Operand) → not (is_pointer scalar) ≡ true → check.right_side env scalar op x ≡ Ok tt → not (is_pointer (cond (check.is_shift op) (count_scalar S scalar x) scalar)) ≡ true
+  right_plain : (scalar : Scalar) (op : Op) (x : Operand) → not (check.is_pointer scalar) ≡ true → check.right_side env scalar op x ≡ Ok tt → not (check.is_pointer (cond (check.is_shift op) (count_scalar S scalar x) scalar)) ≡ true
   unfolding check.right_side
   right_plain scalar op x q e = by (check.is_shift op) e
     where
-      by : (b : Bool) → cond b (check.count env scalar x) (check.operand env 4 scalar x) ≡ Ok tt → not (is_pointer (cond b (count_scalar S scalar x) scalar)) ≡ true
+      by : (b : Bool) → cond b (check.count env scalar x) (check.operand env 4 scalar x) ≡ Ok tt → not (check.is_pointer (cond b (count_scalar S scalar x) scalar)) ≡ true
       by true g = count_plain scalar x q g
       by false g = q
 
-  lawful_by : (b : Bool) (op : Op) (other : Scalar) → b ≡ false → not (is_pointer other) ≡ true → cond b (check.is_add op) (not (is_pointer (cond b I64 other))) ≡ true
+  lawful_by : (b : Bool) (op : Op) (other : Scalar) → b ≡ false → not (check.is_pointer other) ≡ true → cond b (check.is_add op) (not (check.is_pointer (cond b I64 other))) ≡ true
   lawful_by true op other e g = cc
   lawful_by false op other e g = g
 
@@ -131,8 +129,7 @@ module _ (s : Folder) (h : IsFolder s) where
           subst (λ z. is_lawful op z (right_scalar S z op right) ≡ true) (sym (pointer_is scalar q)) (demanded _ 4 a.1)
       by false q g =
           let a = first_passed (check.operand env 4 scalar left) _ tt g in
-          let plain : is_pointer scalar ≡ false = sym (same_test scalar) ∙ q in
-          lawful_by (is_pointer scalar) op (cond (check.is_shift op) (count_scalar S scalar right) scalar) plain (right_plain scalar op right (ap not plain) a.2)
+          lawful_by (check.is_pointer scalar) op (cond (check.is_shift op) (count_scalar S scalar right) scalar) q (right_plain scalar op right (ap not q) a.2)
 
   target_own : (to : List ℕ) (scalar found : Scalar) → scalar ≡ register_scalar S.registers to → scalar_of env to ≡ Ok found → found ≡ scalar
   target_own to scalar found e g = sym (own to found g) ∙ sym e
@@ -168,6 +165,7 @@ module _ (s : Folder) (h : IsFolder s) where
     result_is k i scalar (Load to from place) e g c = cc
     result_is k i scalar (Store at place from) e g c = cc
     result_is k i scalar (Call to callee xs) e g c = cc
+    result_is k i scalar (Indirect to signature callee xs) e g c = cc
     result_is k i scalar (Get to) e g c = cc
     result_is k i scalar (Put from) e g c = cc
     result_is k i scalar Abort e g c = cc

@@ -1,7 +1,8 @@
 -- The labels of the blocks that are kept.
-use Rattle.std.proofs.Common.{◌≡◌, ℕ, ◌+◌, ◌==◌, Bool, true, false, not, ◌||◌, if◌then◌else◌, List, [], ◌∷◌, ◌++◌, map, refl, sym, ◌∙◌, subst, Some, Ok}
-use Rattle.std.specs.List.{list_any}
-use Rattle.std.proofs.lemmas.Bool.{eqb-true, eq-eqb}
+use Rattle.std.proofs.Common.{◌≡◌, ℕ, ◌+◌, ◌<◌, ◌==◌, Bool, true, false, not, cond, ◌||◌, if◌then◌else◌, List, [], ◌∷◌, ◌++◌, map, length, refl, sym, ◌∙◌, ap, subst, arith, Option, Some, None, Ok}
+use Rattle.std.specs.List.{list_any, position_or_len}
+use Rattle.std.proofs.lemmas.Bool.{eqb-true, eq-eqb, lt-ltb}
+use Rattle.std.proofs.lemmas.Option.{slice_get_within}
 use Rattle.gimple_ir.specs.declared.statement.Stmt.{Stmt}
 use Rattle.gimple_ir.specs.declared.block.Block.{Block}
 use Rattle.gimple_ir.specs.declared.block.End.{End}
@@ -10,7 +11,9 @@ use Rattle.gimple_core.specs.Verdict.{demand}
 use Rattle.gimple_core.specs.Declarations as d
 use Rattle.gimple_core.proofs.Passed.{first_passed, both_pass, demanded, demand_passes}
 use Rattle.gimple_claims.specs.Kept.{new_body, new_blocks}
+use Rattle.gimple_claims.proofs.Blocks.{label_at}
 use Rattle.gimple_claims.proofs.Checked.{ok_same}
+use Rattle.body_values.specs.Flow.{block_place, place_or}
 
 abbrev Lists : List ℕ → ℕ → Bool
 Lists ls l = list_any (λ m. l == m) ls
@@ -33,6 +36,27 @@ from_listed to n (c ∷ cs) x e = listed_by to n c cs x (from_listed to (n + 1) 
 
 pub block_listed : (to : ℕ) (bs : List Block) (x : ℕ × Block) → labelled to bs ≡ Some x → Lists (map (λ (b : Block). b.label) bs) to ≡ true
 block_listed to bs x e = from_listed to 0 bs x e
+
+-- ---- the number of a block that is found is its place
+
+place_by : (n k : ℕ) (b c : Block) (o : Option (ℕ × Block)) (m : ℕ) → (o ≡ Some (k, b) → n + 1 + m ≡ k) → (t : Bool) → (if t then Some (n, c) else o) ≡ Some (k, b) → n + cond (not t) (1 + m) 0 ≡ k
+place_by n k b c o m more true e = let pair : (n, c) ≡ (k, b) = cc in let same : n ≡ k = ap (λ (x : ℕ × Block). x.0) pair in omega (arith, same)
+place_by n k b c o m more false e = let rest = more e in omega (arith, rest)
+
+from_place : (to n k : ℕ) (bs : List Block) (b : Block) → block_from to n bs ≡ Some (k, b) → n + position_or_len (λ (x : Block). x.label == to) bs ≡ k
+unfolding block_from
+from_place to n k [] b e = cc
+from_place to n k (c ∷ cs) b e = place_by n k b c (block_from to (n + 1) cs) (position_or_len (λ (x : Block). x.label == to) cs) (from_place to (n + 1) k cs b) (c.label == to) e
+
+number_by : (t : Bool) (n k : ℕ) → t ≡ true → n ≡ k → place_or (cond t (Some n) None) ≡ k
+number_by true n k e h = h
+number_by false n k e h = cc
+
+pub block_number : (to : ℕ) (bs : List Block) (k : ℕ) (b : Block) → labelled to bs ≡ Some (k, b) → place_or (block_place to bs) ≡ k
+block_number to bs k b e =
+    let place : position_or_len (λ (x : Block). x.label == to) bs ≡ k = from_place to 0 k bs b e in
+    let within : k < length bs = slice_get_within bs k b (label_at to k bs b e) in
+    number_by _ (position_or_len (λ (x : Block). x.label == to) bs) k (lt-ltb (position_or_len (λ (x : Block). x.label == to) bs) (length bs) (omega (arith, place, within))) place
 
 -- ---- kept labels differ where all do
 

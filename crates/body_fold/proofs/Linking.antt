@@ -6,12 +6,11 @@ use Rattle.std.proofs.lemmas.List.{drop_more, map-append}
 use Rattle.gimple_ir.specs.declared.statement.Stmt.{Stmt}
 use Rattle.gimple_ir.specs.declared.block.Block.{Block}
 use Rattle.gimple_ir.specs.declared.block.End.{End}
-use Rattle.gimple_core.specs.Run.{block_place, place_or}
 use Rattle.gimple_claims.specs.Kept.{new_body, new_blocks}
 use Rattle.graph_walk.specs.Graph.{Leads, start, along, AreMarks}
 use Rattle.graph_walk.specs.Walk.{listed, row_at}
 use Rattle.graph_walk.proofs.Walking.{marked_inside}
-use Rattle.body_values.specs.Flow.{labels_of}
+use Rattle.body_values.specs.Flow.{block_place, place_or, labels_of}
 use Rattle.body_values.specs.System.{place_within}
 use Rattle.body_fold.specs.Fold.{IsLinked, first, linked}
 use Rattle.body_fold.specs.Links.{places_of, targets_of, all_targets, out_of, unless_dropped, marked_blocks}

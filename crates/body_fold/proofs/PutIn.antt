@@ -1,7 +1,7 @@
 -- Sides of comparisons and arguments with known constants put in.
 use Rattle.std.proofs.Common.{◌≡◌, ℕ, zero, suc, ◌+◌, ◌<◌, Bool, true, false, if◌then◌else◌, List, [], ◌∷◌, ◌++◌, length, drop, refl, sym, ◌∙◌, ap, arith, append_assoc, drop-cons, get_or, Option, Some, None, slice_get}
 use Rattle.gimple_ir.specs.declared.scalar.Cmp.{Cmp}
-use Rattle.gimple_ir.specs.declared.declarations.Register.{Register}
+use Rattle.gimple_ir.specs.declared.scalar.Scalar.{Scalar}
 use Rattle.gimple_ir.specs.declared.operand.Operand.{Operand}
 use Rattle.gimple_core.specs.Verdict.{Verdict}
 use Rattle.gimple_core.specs.Statements as check
@@ -53,13 +53,13 @@ module _ (S : Folding) (row : List AbsVal) where
   no_formals [] = refl
   no_formals (x ∷ xs) = refl
 
-  next_formal : (formals : List Register) (i : ℕ) (x : Operand) (xs : List Operand) → folded_arguments S row (drop i formals) (x ∷ xs) ≡ argument_of S row (slice_get formals i) x ∷ folded_arguments S row (drop (suc i) formals) xs
+  next_formal : (formals : List Scalar) (i : ℕ) (x : Operand) (xs : List Operand) → folded_arguments S row (drop i formals) (x ∷ xs) ≡ argument_of S row (slice_get formals i) x ∷ folded_arguments S row (drop (suc i) formals) xs
   next_formal [] zero x xs = ap (λ ys. x ∷ ys) (sym (no_formals xs))
   next_formal [] (suc i) x xs = ap (λ ys. x ∷ ys) (sym (no_formals xs))
   next_formal (r ∷ rs) zero x xs = refl
   next_formal (r ∷ rs) (suc i) x xs = next_formal rs i x xs
 
-  pub next_argument : (formals : List Register) (xs done all : List Operand) (i : ℕ) (x y : Operand) → i < length xs → x ≡ get_or xs i x → y ≡ argument_of S row (slice_get formals i) x →
+  pub next_argument : (formals : List Scalar) (xs done all : List Operand) (i : ℕ) (x y : Operand) → i < length xs → x ≡ get_or xs i x → y ≡ argument_of S row (slice_get formals i) x →
       done ++ folded_arguments S row (drop i formals) (drop i xs) ≡ all → (done ++ y ∷ []) ++ folded_arguments S row (drop (i + 1) formals) (drop (i + 1) xs) ≡ all
   next_argument formals xs done all i x y l is put h =
       let here : drop i xs ≡ x ∷ drop (suc i) xs = drop-cons xs i x l ∙ ap (λ z. z ∷ drop (suc i) xs) (sym is) in

@@ -13,7 +13,8 @@ use Rattle.gimple_ir.specs.declared.statement.Stmt.TheVariants.{Copy, Arith, Put
 use Rattle.gimple_ir.specs.declared.block.Block.{Block}
 use Rattle.gimple_ir.specs.declared.block.End.TheVariants.{Return}
 use Rattle.gimple_ir.specs.declared.program.Function.{Function}
-use Rattle.gimple_ir.specs.declared.program.Program.{Program}
+use Rattle.gimple_ir.specs.declared.scalar.Mode.TheVariants.{Trap}
+use Rattle.gimple_core.specs.Sealed.{Sealed}
 use Rattle.gimple_core.specs.Operators.{op_of, wrapped}
 use Rattle.gimple_core.specs.State.{number_in}
 use Rattle.gimple_core.specs.Run.{arith_of, main_name}
@@ -61,8 +62,8 @@ source = main_with (Copy a (Number (pos 255)) ∷ Arith b (Reg a) Add (Number (p
 abbrev folded : Function
 folded = main_with (Copy a (Number (pos 255)) ∷ Copy b (Number (pos 0)) ∷ Put (Number (pos 0)) ∷ Copy c (Number (pos 127)) ∷ Arith d (Number (pos 127)) Add (Number (pos 1)) ∷ Put (Reg d) ∷ [])
 
-abbrev program : Program
-program = record { structs = []; globals = []; functions = source ∷ [] }
+abbrev program : Sealed
+program = record { program = record { profile = 1; structs = []; globals = []; functions = source ∷ [] }; mode = Trap }
 
 abbrev facts : Facts
 facts = record { formals = []; loads = [] }

@@ -1,6 +1,8 @@
 -- Worked rows: folded statements and ends.
-use Rattle.std.specs.Prelude.{◌≡◌, ℕ, ℤ, pos, List, [], ◌∷◌, None, refl}
+use Rattle.std.specs.Prelude.{◌≡◌, ℕ, ℤ, pos, negsuc, List, [], ◌∷◌, None, refl}
 use Rattle.gimple_ir.specs.declared.scalar.Scalar.TheVariants.{I8, U8, U64}
+use Rattle.gimple_ir.specs.declared.scalar.Mode.{Mode}
+use Rattle.gimple_ir.specs.declared.scalar.Mode.TheVariants.{Trap, Wrap}
 use Rattle.gimple_ir.specs.declared.scalar.Op.TheVariants.{Add, Div, Shr}
 use Rattle.gimple_ir.specs.declared.scalar.Cmp.TheVariants.{Lt}
 use Rattle.gimple_ir.specs.declared.operand.Operand.TheVariants.{Reg, Number}
@@ -39,12 +41,15 @@ d = 100 ∷ []
 abbrev e : List ℕ
 e = 101 ∷ []
 
-abbrev S : Folding
-S = record {
-  env = record { structs = []; globals = []; locals = []; registers = registers_by_name declared; labels = 2 ∷ 3 ∷ []; result = None };
+abbrev in_mode : Mode → Folding
+in_mode mode = record {
+  env = record { targets = None; structs = []; globals = []; locals = []; registers = registers_by_name declared; labels = 2 ∷ 3 ∷ []; result = None };
   names = [];
-  body = record { structs = []; globals = []; locals = []; registers = declared; most = 8; ends = []; loads = λ k i. None };
+  body = record { structs = []; globals = []; mode = mode; locals = []; registers = declared; most = 8; ends = []; loads = λ k i. None };
 }
+
+abbrev S : Folding
+S = in_mode Trap
 
 -- one number, and all numbers of an interval
 abbrev one : ℤ → AbsVal
@@ -67,6 +72,11 @@ signed_traps : folded_stmt S 0 0 row (Arith d (Reg c) Add (Number (pos 1))) ≡ 
 unfolding folded_stmt with_operands known_result evaluated never_traps known_operand known_register constant_operand constant_for operand_value brought_into known_of may_trap_of arith_of op_of number_in wrapped exactly_of s.operand s.right_side
 signed_traps = refl
 
+-- where sums wrap, it becomes `d = -128;`
+signed_wraps : folded_stmt (in_mode Wrap) 0 0 row (Arith d (Reg c) Add (Number (pos 1))) ≡ Copy d (Number (negsuc 127))
+unfolding folded_stmt with_operands known_result evaluated never_traps known_operand known_register constant_operand constant_for operand_value brought_into known_of arith_of op_of number_in wrapped s.operand
+signed_wraps = refl
+
 -- `d = d >> e;` becomes `d = 0 >> e;`, since 300 is no i8
 count_stays : folded_stmt S 0 0 row (Arith d (Reg d) Shr (Reg e)) ≡ Arith d (Number (pos 0)) Shr (Reg e)
 unfolding folded_stmt with_operands known_result evaluated never_traps known_operand known_register constant_operand constant_for operand_value brought_into known_of may_trap_of arith_of op_of number_in s.operand s.right_side s.count
@@ -86,7 +96,8 @@ decided : folded_end S row (If (Reg a) Lt (Number (pos 3)) 2 3) ≡ Goto 3
 unfolding folded_end known_comparison compared_constant known_operand known_register operand_value brought_into known_of compares
 decided = refl
 
--- a quotient by a number that may be 0 stays, and only what is known is put in
-quotient_stays : folded_stmt S 0 0 (one (pos 9) ∷ between (pos 0) (pos 5) ∷ []) (Arith b (Reg a) Div (Reg b)) ≡ Arith b (Number (pos 9)) Div (Reg b)
+-- in each mode a quotient by a number that may be 0 stays, and only what is known is put in
+quotient_stays : (mode : Mode) → folded_stmt (in_mode mode) 0 0 (one (pos 9) ∷ between (pos 0) (pos 5) ∷ []) (Arith b (Reg a) Div (Reg b)) ≡ Arith b (Number (pos 9)) Div (Reg b)
 unfolding folded_stmt with_operands known_result evaluated never_traps known_operand known_register constant_operand constant_for operand_value brought_into known_of may_trap_of exactly_of s.operand s.right_side
-quotient_stays = refl
+quotient_stays Trap = refl
+quotient_stays Wrap = refl

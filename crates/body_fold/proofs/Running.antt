@@ -1,5 +1,5 @@
 -- A program with one function folded runs as the program does.
-use Rattle.std.proofs.Common.{◌≡◌, ℕ, zero, suc, ◌+◌, ◌==◌, ℤ, Bool, true, false, if◌then◌else◌, List, [], ◌∷◌, refl, sym, ◌∙◌, ap, subst, Option, Some, None, slice_get, slice_set, arith}
+use Rattle.std.proofs.Common.{◌≡◌, ℕ, zero, suc, ◌+◌, ◌==◌, ℤ, Bool, true, false, if◌then◌else◌, List, [], ◌∷◌, refl, sym, ◌∙◌, ap, subst, Option, Some, None, Result, Ok, Err, slice_get, slice_set, arith}
 use Rattle.std.specs.List.{list_all, find, position_or_len}
 use Rattle.std.proofs.lemmas.List.Folds.{find_at}
 use Rattle.std.proofs.lemmas.Bool.{eqb-true, eq-eqb}
@@ -8,17 +8,21 @@ use Rattle.gimple_ir.specs.declared.block.Block.{Block}
 use Rattle.gimple_ir.specs.declared.block.End.{End}
 use Rattle.gimple_ir.specs.declared.statement.Stmt.{Stmt}
 use Rattle.gimple_ir.specs.declared.program.Function.{Function}
-use Rattle.gimple_ir.specs.declared.program.Program.{Program}
+use Rattle.gimple_ir.specs.declared.value.TrapKind.{TrapKind}
+use Rattle.gimple_ir.specs.declared.value.Value.{Value}
+use Rattle.gimple_ir.specs.declared.value.Value.TheVariants.{Int, Null, At, Code}
+use Rattle.gimple_ir.specs.declared.statement.Signature.{Signature}
+use Rattle.gimple_core.specs.Sealed.{Sealed}
 use Rattle.std.specs.Str.{bytes_eq}
 use Rattle.gimple_core.specs.Operators.{in_scalar}
-use Rattle.gimple_core.specs.State.{State}
-use Rattle.gimple_core.specs.Run.{Calling, function_named, main_name, block_at, block_place, place_or, Run}
+use Rattle.gimple_core.specs.State.{State, Scope, scope_of, value_in}
+use Rattle.gimple_core.specs.Run.{Callee, Named, Through, Calling, ToLabel, exit_of, function_named, has_signature, called_by_name, called_with, called_through, called_function, main_name, labelled, Run}
 use Rattle.gimple_core.specs.Trace.{Event, main_entry, InEachRun}
 use Rattle.gimple_claims.specs.Bodies.{FactsClaim}
-use Rattle.gimple_claims.specs.Exits.{ToLabel, exit_of}
 use Rattle.gimple_claims.specs.Kept.{new_body, new_blocks}
 use Rattle.gimple_claims.specs.Instances.{Instances, instance, IsMade, AreMade, BeginAlike, CalleesAlike, StandsFor, MainsAlike, Specialises}
-use Rattle.gimple_claims.proofs.Comes.{Comes}
+use Rattle.gimple_claims.specs.Runs.{Comes}
+use Rattle.gimple_claims.proofs.Callees.{called_if}
 use Rattle.gimple_claims.proofs.Instances.{instances_run}
 use Rattle.gimple_claims.proofs.Kept.{NewAt, none_new, kept_new}
 use Rattle.fix_engine.specs.declared.lifted.Lifted.{Lifted}
@@ -86,8 +90,8 @@ abbrev function_or : Function → Option Function → Function
 function_or f None = f
 function_or f (Some h) = h
 
-module _ (p : Program) (n : ℕ) (f : Function) (facts : Facts) (most : ℕ) (ts : List ℤ) (xs : List (Lifted (List AbsVal))) (g : Function) (folds : FoldsBy p n f facts most ts xs g) (all : InEachRun p (FactsClaim f (given_of n f facts)))
-    (mean : NamesMean p.globals f.locals) (input : List ℤ) (numbers : list_all (in_scalar I64) input ≡ true) where
+module _ (p : Sealed) (n : ℕ) (f : Function) (facts : Facts) (most : ℕ) (ts : List ℤ) (xs : List (Lifted (List AbsVal))) (g : Function) (folds : FoldsBy p n f facts most ts xs g) (all : InEachRun p (FactsClaim f (given_of n f facts)))
+    (mean : NamesMean p.program.globals f.locals) (input : List ℤ) (numbers : list_all (in_scalar I64) input ≡ true) where
   abbrev put : ℕ → ℕ → Stmt → Stmt
   put k i x = new_stmt (S p n f facts most ts xs g folds all mean input numbers) (values p n f facts most ts xs g folds all mean input numbers) k i x
 
@@ -100,28 +104,28 @@ module _ (p : Program) (n : ℕ) (f : Function) (facts : Facts) (most : ℕ) (ts
   -- each function stands for itself, and this one for the folded one
   abbrev I : Instances
   I = record {
-    source = λ j. function_or f (slice_get p.functions j);
+    source = λ j. function_or f (slice_get p.program.functions j);
     put = λ j k i x. if j == n then put k i x else x;
     end = λ j k e. if j == n then end k e else e;
-    name = λ j. (function_or f (slice_get p.functions j)).name;
-    blocks = λ j. if j == n then new_blocks put end keep 0 f.blocks else (function_or f (slice_get p.functions j)).blocks;
+    name = λ j. (function_or f (slice_get p.program.functions j)).name;
+    blocks = λ j. if j == n then new_blocks put end keep 0 f.blocks else (function_or f (slice_get p.program.functions j)).blocks;
   }
 
   abbrev Fits : List Event → ℕ → ℕ → Type 0
   Fits past serial j = Unit {0}
 
   abbrev gs : List Function
-  gs = slice_set p.functions n g
+  gs = slice_set p.program.functions n g
 
   -- ---- the instances
 
   source_is : (j : ℕ) → (j == n) ≡ true → I.source j ≡ f
-  source_is j t = ap (λ m. function_or f (slice_get p.functions m)) (eqb-true j n t) ∙ ap (function_or f) folds.own
+  source_is j t = ap (λ m. function_or f (slice_get p.program.functions m)) (eqb-true j n t) ∙ ap (function_or f) folds.own
 
-  source_at : (j : ℕ) (h : Function) → slice_get p.functions j ≡ Some h → I.source j ≡ h
+  source_at : (j : ℕ) (h : Function) → slice_get p.program.functions j ≡ Some h → I.source j ≡ h
   source_at j h e = ap (function_or f) e
 
-  instance_by : (j : ℕ) (h : Function) → slice_get p.functions j ≡ Some h → (b : Bool) → (j == n) ≡ b → (if b then g else h) ≡ instance I j
+  instance_by : (j : ℕ) (h : Function) → slice_get p.program.functions j ≡ Some h → (b : Bool) → (j == n) ≡ b → (if b then g else h) ≡ instance I j
   instance_by j h e true t =
       let same : I.source j ≡ f = source_is j t in
       folds.folded.is ∙ (λ i. record (sym same i) { blocks = if sym t i then new_blocks put end keep 0 f.blocks else (I.source j).blocks })
@@ -133,15 +137,15 @@ module _ (p : Program) (n : ℕ) (f : Function) (facts : Facts) (most : ℕ) (ts
   Instanced name None = function_named name gs ≡ None
   Instanced name (Some h) = (j : ℕ) × (I.source j ≡ h) × (function_named name gs ≡ Some (instance I j))
 
-  instanced_by : (name : List ℕ) (o : Option Function) → Chosen (λ (h : Function). bytes_eq h.name name) p.functions n g o → Instanced name o
+  instanced_by : (name : List ℕ) (o : Option Function) → Chosen (λ (h : Function). bytes_eq h.name name) p.program.functions n g o → Instanced name o
   unfolding function_named
   instanced_by name None c = c
   instanced_by name (Some h) c = (c.0, source_at c.0 h c.1, c.2 ∙ ap Some (instance_by c.0 h c.1 (c.0 == n) refl))
 
-  instanced : (name : List ℕ) (o : Option Function) → function_named name p.functions ≡ o → Instanced name o
+  instanced : (name : List ℕ) (o : Option Function) → function_named name p.program.functions ≡ o → Instanced name o
   unfolding function_named
   instanced name o e =
-      instanced_by name o (find_replaced (λ (h : Function). bytes_eq h.name name) p.functions n f g o folds.own (ap (λ (h : Function). bytes_eq h.name name) folds.folded.is) e)
+      instanced_by name o (find_replaced (λ (h : Function). bytes_eq h.name name) p.program.functions n f g o folds.own (ap (λ (h : Function). bytes_eq h.name name) folds.folded.is) e)
 
   -- ---- bodies
 
@@ -174,17 +178,46 @@ module _ (p : Program) (n : ℕ) (f : Function) (facts : Facts) (most : ℕ) (ts
 
   -- ---- statements
 
-  callees : (past : List Event) (s : State) (c d : Calling) → d.callee ≡ c.callee → (o : Option Function) → function_named c.callee p.functions ≡ o → CalleesAlike I Fits p (replaced p n g) past s c d o
-  callees past s c d same None e = ap (λ name. function_named name gs) same ∙ instanced c.callee None e
-  callees past s c d same (Some h) e =
-      let q = instanced c.callee (Some h) e in
-      record { number = q.0; source = q.1; callee = ap (λ name. function_named name gs) same ∙ q.2; fits = λ t x. tt }
+  abbrev Enters : List Event → State → Result Function TrapKind → Result Function TrapKind → Type 0
+  Enters past s o r = CalleesAlike I Fits p past s o r
+
+  enters_instance : (past : List Event) (s : State) (h : Function) (j : ℕ) → I.source j ≡ h → (r : Result Function TrapKind) → r ≡ Ok (instance I j) → Enters past s (Ok h) r
+  enters_instance past s h j same r e = record { number = j; source = same; callee = e; fits = λ t x. tt }
+
+  -- a call by name
+  by_name : (past : List Event) (s : State) (name : List ℕ) (o : Option Function) → Instanced name o → Enters past s (called_by_name o) (called_by_name (function_named name gs))
+  by_name past s name None e = ap called_by_name e
+  by_name past s name (Some h) q = enters_instance past s h q.0 q.1 _ (ap called_by_name q.2)
+
+  -- a call through a register: the folded function has the signature of its source
+  fits_too : (signature : Signature) (h : Function) (j : ℕ) → I.source j ≡ h → has_signature signature (instance I j) ≡ has_signature signature h
+  fits_too signature h j same = ap (has_signature signature) same
+
+  if_entered : (past : List Event) (s : State) (h : Function) (j : ℕ) → I.source j ≡ h → (b : Bool) → Enters past s (called_if b h) (called_if b (instance I j))
+  if_entered past s h j same true = enters_instance past s h j same _ refl
+  if_entered past s h j same false = refl
+
+  with_signature : (past : List Event) (s : State) (signature : Signature) (name : List ℕ) (o : Option Function) → Instanced name o → Enters past s (called_with signature o) (called_with signature (function_named name gs))
+  with_signature past s signature name None e = ap (called_with signature) e
+  with_signature past s signature name (Some h) q =
+      subst (Enters past s (called_with signature (Some h))) (sym (ap (called_with signature) q.2))
+      (subst (λ b. Enters past s (called_with signature (Some h)) (called_if b (instance I q.0))) (sym (fits_too signature h q.0 q.1)) (if_entered past s h q.0 q.1 (has_signature signature h)))
+
+  by_value : (past : List Event) (s : State) (signature : Signature) (v : Value) → Enters past s (called_through p.program.functions signature v) (called_through gs signature v)
+  by_value past s signature (Int z) = refl
+  by_value past s signature Null = refl
+  by_value past s signature (At object offset) = refl
+  by_value past s signature (Code name) = with_signature past s signature name (function_named name p.program.functions) (instanced name (function_named name p.program.functions) refl)
+
+  callees : (past : List Event) (s : State) (c : Callee) → Enters past s (called_function p.program.functions (scope_of s.top) s.world.registers c) (called_function gs (scope_of s.top) s.world.registers c)
+  callees past s (Named name) = by_name past s name (function_named name p.program.functions) (instanced name (function_named name p.program.functions) refl)
+  callees past s (Through name signature) = by_value past s signature (value_in (scope_of s.top) s.world.registers name)
 
   stmt_of : (past : List Event) (s : State) (x : Stmt) (rest : List Stmt) (j : ℕ) → Comes p input past s → I.source j ≡ s.top.function → s.top.rest ≡ x ∷ rest → (b : Bool) → (j == n) ≡ b →
-      StandsFor I Fits p (replaced p n g) past s x (if b then put s.top.block s.top.index x else x)
+      StandsFor I Fits p gs past s x (if b then put s.top.block s.top.index x else x)
   stmt_of past s x rest j comes same e false t = record {
     act = λ u. (u, refl);
-    call = λ c u. (c, u, refl, refl, callees past s c c refl (function_named c.callee p.functions) refl);
+    call = λ c u. (c, u, refl, refl, callees past s c.callee);
   }
   stmt_of past s x rest j comes same e true t =
       let own : s.top.function ≡ f = sym same ∙ source_is j t in
@@ -192,39 +225,40 @@ module _ (p : Program) (n : ℕ) (f : Function) (facts : Facts) (most : ℕ) (ts
         act = λ u. stmt_here p n f facts most ts xs g folds all mean input numbers past s x rest comes own e u;
         call = λ c u.
             let a = call_here p n f facts most ts xs g folds all mean input numbers past s x rest c comes own e u in
-            (record { to = c.to; callee = c.callee; arguments = a.arguments }, a.is, refl, a.values_same, callees past s c (record { to = c.to; callee = c.callee; arguments = a.arguments }) refl (function_named c.callee p.functions) refl);
+            (record { to = c.to; callee = c.callee; arguments = a.arguments }, a.is, refl, a.values_same, callees past s c.callee);
       }
 
   -- ---- ends
 
-  end_of : (past : List Event) (s : State) (j : ℕ) → Comes p input past s → I.source j ≡ s.top.function → s.top.rest ≡ [] → (b : Bool) → (j == n) ≡ b → exit_of p.globals (if b then end s.top.block s.top.end else s.top.end) s ≡ exit_of p.globals s.top.end s
+  end_of : (past : List Event) (s : State) (j : ℕ) → Comes p input past s → I.source j ≡ s.top.function → s.top.rest ≡ [] → (b : Bool) → (j == n) ≡ b → exit_of p.program.globals (if b then end s.top.block s.top.end else s.top.end) s ≡ exit_of p.program.globals s.top.end s
   end_of past s j comes same e false t = refl
   end_of past s j comes same e true t =
-      exit_is p.globals (end s.top.block s.top.end) s ∙ end_here p n f facts most ts xs g folds all mean input numbers past s comes (sym same ∙ source_is j t) e
+      exit_is p.program.globals (end s.top.block s.top.end) s ∙ end_here p n f facts most ts xs g folds all mean input numbers past s comes (sym same ∙ source_is j t) e
 
-  jump_old : (j : ℕ) → (j == n) ≡ false → (k : ℕ) (o : Option Block) → AreMade I j k o o
-  jump_old j t k None = tt
-  jump_old j t k (Some b) = stays j t k b
+  jump_old : (j : ℕ) → (j == n) ≡ false → (o : Option (ℕ × Block)) → AreMade I j o o
+  jump_old j t None = tt
+  jump_old j t (Some (k, b)) = stays j t k b
 
-  jump_some : (j : ℕ) → (j == n) ≡ true → (k : ℕ) (b : Block) (o : Option Block) → NewAt put end k b o → AreMade I j k (Some b) o
-  jump_some j t k b o h = subst (AreMade I j k (Some b)) (sym h.found) (changed j t k b h.block h.body h.ends)
+  jump_some : (j : ℕ) → (j == n) ≡ true → (k : ℕ) (b : Block) (o : Option (ℕ × Block)) → NewAt put end k b o → AreMade I j (Some (k, b)) o
+  jump_some j t k b o h = subst (AreMade I j (Some (k, b))) (sym h.found) (changed j t k b h.block h.body h.ends)
 
-  jump_new : (j : ℕ) → (j == n) ≡ true → (label : ℕ) → keep (place_or (block_place label f.blocks)) ≡ true → (o : Option Block) → block_at label f.blocks ≡ o → AreMade I j (place_or (block_place label f.blocks)) o (block_at label (new_blocks put end keep 0 f.blocks))
-  jump_new j t label kept None e = subst (AreMade I j (place_or (block_place label f.blocks)) None) (sym (none_new put end keep label 0 f.blocks e)) tt
-  jump_new j t label kept (Some b) e = jump_some j t _ b _ (kept_new put end keep label f.blocks b e kept)
+  jump_new : (j : ℕ) → (j == n) ≡ true → (label : ℕ) (o : Option (ℕ × Block)) → ((k : ℕ) (b : Block) → o ≡ Some (k, b) → keep k ≡ true) → labelled label f.blocks ≡ o → AreMade I j o (labelled label (new_blocks put end keep 0 f.blocks))
+  jump_new j t label None kept e = subst (AreMade I j None) (sym (none_new put end keep label f.blocks e)) tt
+  jump_new j t label (Some (k, b)) kept e = jump_some j t k b _ (kept_new put end keep label f.blocks k b e (kept k b refl))
 
-  jump_of : (past : List Event) (s : State) (label j : ℕ) → Comes p input past s → I.source j ≡ s.top.function → s.top.rest ≡ [] → exit_of p.globals s.top.end s ≡ ToLabel label → (b : Bool) → (j == n) ≡ b →
-      AreMade I j (place_or (block_place label s.top.function.blocks)) (block_at label s.top.function.blocks) (block_at label (if b then new_blocks put end keep 0 f.blocks else (I.source j).blocks))
+  jump_of : (past : List Event) (s : State) (label j : ℕ) → Comes p input past s → I.source j ≡ s.top.function → s.top.rest ≡ [] → exit_of p.program.globals s.top.end s ≡ ToLabel label → (b : Bool) → (j == n) ≡ b →
+      AreMade I j (labelled label s.top.function.blocks) (labelled label (if b then new_blocks put end keep 0 f.blocks else (I.source j).blocks))
   jump_of past s label j comes same e x false t =
-      subst (λ (h : Function). AreMade I j (place_or (block_place label s.top.function.blocks)) (block_at label s.top.function.blocks) (block_at label h.blocks)) (sym same) (jump_old j t _ _)
+      subst (λ (h : Function). AreMade I j (labelled label s.top.function.blocks) (labelled label h.blocks)) (sym same) (jump_old j t _)
   jump_of past s label j comes same e x true t =
       let own : s.top.function ≡ f = sym same ∙ source_is j t in
-      subst (λ (h : Function). AreMade I j (place_or (block_place label h.blocks)) (block_at label h.blocks) (block_at label (new_blocks put end keep 0 f.blocks))) (sym own)
-      (jump_new j t label ((folds.folded.kept (place_or (block_place label f.blocks))).1 (jump_kept p n f facts most ts xs g folds all mean input numbers past s label comes own e x)) (block_at label f.blocks) refl)
+      subst (λ (h : Function). AreMade I j (labelled label h.blocks) (labelled label (new_blocks put end keep 0 f.blocks))) (sym own)
+      (jump_new j t label (labelled label f.blocks)
+      (λ k b there. (folds.folded.kept k).1 (jump_kept p n f facts most ts xs g folds all mean input numbers past s label k b comes own e x there)) refl)
 
   -- ---- the run
 
-  mains_of : (o : Option Function) → function_named main_name p.functions ≡ o → MainsAlike I Fits (λ s. main_entry p s ∷ []) o (function_named main_name gs)
+  mains_of : (o : Option Function) → function_named main_name p.program.functions ≡ o → MainsAlike I Fits (λ s. main_entry p s ∷ []) o (function_named main_name gs)
   mains_of None e = subst (MainsAlike I Fits (λ s. main_entry p s ∷ []) None) (sym (instanced main_name None e)) tt
   mains_of (Some h) e =
       let q = instanced main_name (Some h) e in
@@ -233,7 +267,7 @@ module _ (p : Program) (n : ℕ) (f : Function) (facts : Facts) (most : ℕ) (ts
   specialises : Specialises I Fits p gs input
   specialises = record {
     begin = λ j e. begin_of j (j == n) refl;
-    mains = mains_of (function_named main_name p.functions) refl;
+    mains = mains_of (function_named main_name p.program.functions) refl;
     keeps = λ past s serial j comes l h. tt;
     stmt = λ past s x rest j comes same h e. stmt_of past s x rest j comes same e (j == n) refl;
     end = λ past s j comes same h e. end_of past s j comes same e (j == n) refl;
@@ -245,4 +279,4 @@ module _ (p : Program) (n : ℕ) (f : Function) (facts : Facts) (most : ℕ) (ts
 
 pub fold_keeps_run : FoldKeepsRun
 fold_keeps_run p n f facts t g folds all input numbers turns =
-    run_same p n f facts t.limits.size t.limits.ends folds.values.begins g (folds_by p n f facts t g folds) all (names_mean p n f folds.accepted folds.own) input numbers turns
+    run_same p n f facts t.limits.size t.limits.ends folds.values.begins g (folds_by p n f facts t g folds) all (names_mean p.program n f folds.accepted folds.own) input numbers turns

@@ -1,4 +1,4 @@
--- Some text spells a program with one function folded where some text spells the program.
+-- A text can spell a program with one function folded where one can spell the program.
 use Rattle.std.proofs.Common.{◌≡◌, ℕ, zero, suc, ◌+◌, ◌^◌, ◌<◌, ◌≤◌, ℤ, pos, negsuc, ◌+ℤ◌, Bool, true, false, not, ◌||◌, if◌then◌else◌, List, [], ◌∷◌, refl, sym, subst, arith, Option, Some, None, Ok, Err, slice_get, slice_set}
 use Rattle.std.specs.List.{find}
 use Rattle.gimple_ir.specs.declared.scalar.Scalar.{Scalar}
@@ -13,37 +13,34 @@ use Rattle.gimple_ir.specs.declared.operand.Operand.TheVariants.{Reg, Number, Nu
 use Rattle.gimple_ir.specs.declared.operand.Base.{Base}
 use Rattle.gimple_ir.specs.declared.operand.Base.TheVariants.{Reg as RegBase, Variable}
 use Rattle.gimple_ir.specs.declared.operand.Place.{Place}
-use Rattle.gimple_ir.specs.declared.declarations.Register.{Register}
 use Rattle.gimple_ir.specs.declared.declarations.Global.{Global}
 use Rattle.gimple_ir.specs.declared.statement.Stmt.{Stmt}
-use Rattle.gimple_ir.specs.declared.statement.Stmt.TheVariants.{Copy, Arith, Compare, Convert, Load, Store, Call, Get, Put, Abort}
+use Rattle.gimple_ir.specs.declared.statement.Stmt.TheVariants.{Copy, Arith, Compare, Convert, Load, Store, Call, Indirect, Get, Put, Abort}
 use Rattle.gimple_ir.specs.declared.block.Case.{Case}
 use Rattle.gimple_ir.specs.declared.block.Block.{Block}
 use Rattle.gimple_ir.specs.declared.block.End.{End}
 use Rattle.gimple_ir.specs.declared.block.End.TheVariants.{Goto, If, Switch, Return}
 use Rattle.gimple_ir.specs.declared.program.Function.{Function}
-use Rattle.gimple_ir.specs.declared.program.Program.{Program}
+use Rattle.gimple_core.specs.Sealed.{Sealed}
 use Rattle.gimple_core.specs.Operators.{in_scalar, wrapped, cmp_of}
 use Rattle.gimple_core.specs.Run.{case_target, any_number}
 use Rattle.gimple_core.specs.State.{offset_in}
 use Rattle.gimple_core.specs.Verdict.{Verdict, demand}
-use Rattle.gimple_core.specs.Env.{Env, named, is_variable}
+use Rattle.gimple_core.specs.Env.{Env, named, is_target, is_variable}
 use Rattle.gimple_core.specs.Statements as s
 use Rattle.gimple_core.proofs.Passed.{first_passed, demanded}
 use Rattle.gimple_core.proofs.RangeLemmas.{limit_of, in_pos, in_neg, wrapped_in}
 use Rattle.gimple_claims.specs.Kept.{new_body, new_blocks}
-use Rattle.gimple_tokens.specs.Lexing.{IsNameText}
-use Rattle.gimple_text.specs.Canon.{AllOf, IsSpellableNumber, IsSpellableOperand, IsSpellablePlace, IsSpellableStmt, IsSpellableCase, IsSpellableEnd, IsSpellableBlock, IsSpellableGlobal, IsSpellableFunction, IsSpellable}
-use Rattle.gimple_text.proofs.Laws.{spellable_has_text}
+use Rattle.gimple_ir.specs.Names.{IsNameText}
+use Rattle.gimple_ir.specs.Spellable.{AllOf, IsSpellableNumber, IsSpellableOperand, IsSpellablePlace, IsSpellableStmt, IsSpellableCase, IsSpellableEnd, IsSpellableBlock, IsSpellableGlobal, IsSpellableFunction, IsSpellable}
 use Rattle.fix_engine.specs.declared.lifted.Lifted.{Lifted}
 use Rattle.fix_engine.specs.declared.lifted.Lifted.TheVariants.{NotReached, Reached}
 use Rattle.value_domain.specs.declared.abs_val.AbsVal.{AbsVal}
-use Rattle.value_domain.specs.ConstantOperators.{is_pointer}
 use Rattle.body_values.specs.declared.facts.Facts.{Facts}
 use Rattle.body_values.specs.Bodies.{target_of}
 use Rattle.body_values.specs.Flow.{body_of, values_at}
 use Rattle.body_fold.specs.Fold.{Folding, value_of_constant, address_in, constant_operand, known_register, known_operand, known_comparison, constant_for, passes, is_put, folded_operand, folded_left, folded_right, right_check, formals_of, folded_arguments, place_in, place_from, place_on, folded_place, stored_place, with_operands, copy_or, with_result, folded_stmt, is_zero, goto_or, case_or, folded_end, stmt_at, end_at, new_stmt, new_end}
-use Rattle.body_fold.specs.Claims.{replaced, FoldHasText}
+use Rattle.body_fold.specs.Claims.{replaced, FoldIsSpellable}
 use Rattle.body_fold.proofs.FoldsBy.{folding_of, FoldsBy, folds_by}
 use Rattle.body_fold.proofs.ConstantValues.{put_has}
 
@@ -90,8 +87,9 @@ operand_fits env wrong scalar (Number z) e = let a = first_passed (demand (not (
 operand_fits env wrong scalar Null e = tt
 operand_fits env wrong scalar (Address name offset) e =
     let a = first_passed (demand (s.is_pointer scalar) wrong) _ tt e in
-    let b = first_passed (demand (is_variable env name) 1) _ tt a.2 in
-    number_spelled I64 offset (demanded _ 13 b.2)
+    let b = first_passed (demand (is_variable env name || is_target env.targets name) 1) _ tt a.2 in
+    let c = first_passed (demand (in_scalar I64 offset) 13) _ tt b.2 in
+    number_spelled I64 offset (demanded _ 13 c.1)
 
 count_fits : (env : Env) (scalar : Scalar) (y : Operand) → s.count env scalar y ≡ Ok tt → Fits y
 unfolding s.count
@@ -107,7 +105,7 @@ right_by env scalar y false false e = operand_fits env 4 scalar y e
 
 right_fits : (env : Env) (scalar : Scalar) (op : Op) (y : Operand) → right_check env scalar op y ≡ Ok tt → Fits y
 unfolding s.right_side
-right_fits env scalar op y e = right_by env scalar y (is_pointer scalar) (s.is_shift op) e
+right_fits env scalar op y e = right_by env scalar y (s.is_pointer scalar) (s.is_shift op) e
 
 compared_fits : (env : Env) (left : Operand) (cmp : Cmp) (right : Operand) → s.compared env left cmp right ≡ Ok tt → Fits left × Fits right
 unfolding s.compared
@@ -146,7 +144,7 @@ all_set P (y ∷ ys) (suc k) x h g = (h.0, all_set P ys k x h.1 g)
 
 -- ---- what is put
 
-module _ (S : Folding) (row : List AbsVal) (globals : AllOf IsSpellableGlobal S.body.globals) where
+module _ (S : Folding) (row : List AbsVal) (globals : AllOf IsSpellableGlobal S.body.globals) (profile : ℕ) where
   address_spelled : (k : ℕ) (offset : ℤ) (y : Operand) → Fits y → (o : Option Global) → slice_get S.body.globals k ≡ o → address_in o offset ≡ Some y → IsSpellableOperand y
   address_spelled k offset y h None e f = cc
   address_spelled k offset y h (Some g) e f =
@@ -183,10 +181,10 @@ module _ (S : Folding) (row : List AbsVal) (globals : AllOf IsSpellableGlobal S.
       by true = h
       by false = operand_spelled (λ y. s.compared S.env y cmp right) (λ y c. (compared_fits S.env y cmp right c).0) left h
 
-  arguments_spelled : (formals : List Register) (xs : List Operand) → AllOf IsSpellableOperand xs → AllOf IsSpellableOperand (folded_arguments S row formals xs)
+  arguments_spelled : (formals : List Scalar) (xs : List Operand) → AllOf IsSpellableOperand xs → AllOf IsSpellableOperand (folded_arguments S row formals xs)
   arguments_spelled formals [] h = tt
   arguments_spelled [] (x ∷ xs) h = h
-  arguments_spelled (r ∷ rs) (x ∷ xs) h = (operand_spelled (s.operand S.env 6 r.scalar) (operand_fits S.env 6 r.scalar) x h.0, arguments_spelled rs xs h.1)
+  arguments_spelled (r ∷ rs) (x ∷ xs) h = (operand_spelled (s.operand S.env 6 r) (operand_fits S.env 6 r) x h.0, arguments_spelled rs xs h.1)
 
   place_by : (k : ℕ) (z : ℤ) (q : Place) → (o : Option Global) → slice_get S.body.globals k ≡ o → place_in o (wrapped I64 z) ≡ Some q → IsSpellablePlace q
   place_by k z q None e f = cc
@@ -210,7 +208,7 @@ module _ (S : Folding) (row : List AbsVal) (globals : AllOf IsSpellableGlobal S.
 
   -- ---- statements
 
-  with_spelled : (scalar : Scalar) (x : Stmt) → IsSpellableStmt x → IsSpellableStmt (with_operands S row scalar x)
+  with_spelled : (scalar : Scalar) (x : Stmt) → IsSpellableStmt profile x → IsSpellableStmt profile (with_operands S row scalar x)
   unfolding with_operands
   with_spelled scalar (Copy to from) h = (h.0, operand_spelled (s.operand S.env 4 scalar) (operand_fits S.env 4 scalar) from h.1)
   with_spelled scalar (Arith to left op right) h = (h.0, operand_spelled (s.operand S.env 4 scalar) (operand_fits S.env 4 scalar) left h.1, operand_spelled (right_check S.env scalar op) (right_fits S.env scalar op) right h.2)
@@ -219,6 +217,7 @@ module _ (S : Folding) (row : List AbsVal) (globals : AllOf IsSpellableGlobal S.
   with_spelled scalar (Load to from place) h = (h.0, place_spelled (s.place S.env from) place h.1)
   with_spelled scalar (Store at place from) h = (place_spelled (stored_place S.env at) place h.0, operand_spelled (s.operand S.env 4 at) (operand_fits S.env 4 at) from h.1)
   with_spelled scalar (Call to callee xs) h = (h.0, h.1, arguments_spelled (formals_of (named callee S.names)) xs h.2)
+  with_spelled scalar (Indirect to signature callee xs) h = (h.0, h.1, arguments_spelled signature.params xs h.2, h.3)
   with_spelled scalar (Get to) h = h
   with_spelled scalar (Put from) h = operand_spelled (s.printed S.env) (printed_fits S.env) from h
   with_spelled scalar Abort h = h
@@ -227,15 +226,15 @@ module _ (S : Folding) (row : List AbsVal) (globals : AllOf IsSpellableGlobal S.
   passed (Ok x) h = refl
   passed (Err code) h = cc
 
-  copy_spelled : (scalar : Scalar) (to : List ℕ) (y : Stmt) (o : Option Constant) (q : Option Operand) → constant_operand S.body.globals o ≡ q → IsNameText to → IsSpellableStmt y → IsSpellableStmt (copy_or (s.operand S.env 4 scalar) to y q)
+  copy_spelled : (scalar : Scalar) (to : List ℕ) (y : Stmt) (o : Option Constant) (q : Option Operand) → constant_operand S.body.globals o ≡ q → IsNameText to → IsSpellableStmt profile y → IsSpellableStmt profile (copy_or (s.operand S.env 4 scalar) to y q)
   copy_spelled scalar to y o None e n h = h
   copy_spelled scalar to y o (Some c) e n h = by (passes (s.operand S.env 4 scalar c)) refl
     where
-      by : (b : Bool) → passes (s.operand S.env 4 scalar c) ≡ b → IsSpellableStmt (if b then Copy to c else y)
+      by : (b : Bool) → passes (s.operand S.env 4 scalar c) ≡ b → IsSpellableStmt profile (if b then Copy to c else y)
       by true g = (n, constant_spelled o c (operand_fits S.env 4 scalar c (passed (s.operand S.env 4 scalar c) g)) e)
       by false g = h
 
-  target_spelled : (x : Stmt) (to : List ℕ) → target_of x ≡ Some to → IsSpellableStmt x → IsNameText to
+  target_spelled : (x : Stmt) (to : List ℕ) → target_of x ≡ Some to → IsSpellableStmt profile x → IsNameText to
   target_spelled (Copy r from) to e h = let same : r ≡ to = cc in subst IsNameText same h.0
   target_spelled (Arith r left op right) to e h = let same : r ≡ to = cc in subst IsNameText same h.0
   target_spelled (Compare r left cmp right) to e h = let same : r ≡ to = cc in subst IsNameText same h.0
@@ -244,15 +243,17 @@ module _ (S : Folding) (row : List AbsVal) (globals : AllOf IsSpellableGlobal S.
   target_spelled (Store at place from) to e h = cc
   target_spelled (Call None callee xs) to e h = cc
   target_spelled (Call (Some r) callee xs) to e h = let same : r ≡ to = cc in subst IsNameText same h.0
+  target_spelled (Indirect None signature callee xs) to e h = cc
+  target_spelled (Indirect (Some r) signature callee xs) to e h = let same : r ≡ to = cc in subst IsNameText same h.0
   target_spelled (Get r) to e h = let same : r ≡ to = cc in subst IsNameText same h
   target_spelled (Put from) to e h = cc
   target_spelled Abort to e h = cc
 
-  result_spelled : (j i : ℕ) (x : Stmt) (scalar : Scalar) (o : Option (List ℕ)) → target_of x ≡ o → IsSpellableStmt x → IsSpellableStmt (with_result S j i row x o scalar)
+  result_spelled : (j i : ℕ) (x : Stmt) (scalar : Scalar) (o : Option (List ℕ)) → target_of x ≡ o → IsSpellableStmt profile x → IsSpellableStmt profile (with_result S j i row x o scalar)
   result_spelled j i x scalar None t h = with_spelled scalar x h
   result_spelled j i x scalar (Some to) t h = copy_spelled scalar to (with_operands S row scalar x) _ _ refl (target_spelled x to t h) (with_spelled scalar x h)
 
-  stmt_spelled : (j i : ℕ) (x : Stmt) → IsSpellableStmt x → IsSpellableStmt (folded_stmt S j i row x)
+  stmt_spelled : (j i : ℕ) (x : Stmt) → IsSpellableStmt profile x → IsSpellableStmt profile (folded_stmt S j i row x)
   unfolding folded_stmt
   stmt_spelled j i x h = result_spelled j i x _ (target_of x) refl h
 
@@ -289,42 +290,42 @@ module _ (S : Folding) (row : List AbsVal) (globals : AllOf IsSpellableGlobal S.
 
 -- ---- bodies
 
-module _ (S : Folding) (values : ℕ → ℕ → Lifted (List AbsVal)) (all : List Block) (keep : ℕ → Bool) (globals : AllOf IsSpellableGlobal S.body.globals) where
-  stmt_at_spelled : (k i : ℕ) (x : Stmt) (v : Lifted (List AbsVal)) → IsSpellableStmt x → IsSpellableStmt (stmt_at S k i x v)
+module _ (S : Folding) (values : ℕ → ℕ → Lifted (List AbsVal)) (all : List Block) (keep : ℕ → Bool) (globals : AllOf IsSpellableGlobal S.body.globals) (profile : ℕ) where
+  stmt_at_spelled : (k i : ℕ) (x : Stmt) (v : Lifted (List AbsVal)) → IsSpellableStmt profile x → IsSpellableStmt profile (stmt_at S k i x v)
   stmt_at_spelled k i x NotReached h = h
-  stmt_at_spelled k i x (Reached row) h = stmt_spelled S row globals k i x h
+  stmt_at_spelled k i x (Reached row) h = stmt_spelled S row globals profile k i x h
 
   end_at_spelled : (e : End) (v : Lifted (List AbsVal)) → IsSpellableEnd e → IsSpellableEnd (end_at S e v)
   end_at_spelled e NotReached h = h
-  end_at_spelled e (Reached row) h = end_spelled S row globals e h
+  end_at_spelled e (Reached row) h = end_spelled S row globals profile e h
 
-  body_spelled : (k i : ℕ) (xs : List Stmt) → AllOf IsSpellableStmt xs → AllOf IsSpellableStmt (new_body (new_stmt S values) k i xs)
+  body_spelled : (k i : ℕ) (xs : List Stmt) → AllOf (IsSpellableStmt profile) xs → AllOf (IsSpellableStmt profile) (new_body (new_stmt S values) k i xs)
   body_spelled k i [] h = tt
   body_spelled k i (x ∷ xs) h = (stmt_at_spelled k i x (values k i) h.0, body_spelled k (i + 1) xs h.1)
 
-  blocks_spelled : (k : ℕ) (bs : List Block) → AllOf IsSpellableBlock bs → AllOf IsSpellableBlock (new_blocks (new_stmt S values) (new_end S all values) keep k bs)
+  blocks_spelled : (k : ℕ) (bs : List Block) → AllOf (IsSpellableBlock profile) bs → AllOf (IsSpellableBlock profile) (new_blocks (new_stmt S values) (new_end S all values) keep k bs)
   blocks_spelled k [] h = tt
   blocks_spelled k (b ∷ bs) h = by (keep k) (blocks_spelled (k + 1) bs h.1)
     where
-      by : (t : Bool) → AllOf IsSpellableBlock (new_blocks (new_stmt S values) (new_end S all values) keep (k + 1) bs) →
-          AllOf IsSpellableBlock (if t then record { label = b.label; body = new_body (new_stmt S values) k 0 b.body; end = new_end S all values k b.end } ∷ new_blocks (new_stmt S values) (new_end S all values) keep (k + 1) bs else new_blocks (new_stmt S values) (new_end S all values) keep (k + 1) bs)
+      by : (t : Bool) → AllOf (IsSpellableBlock profile) (new_blocks (new_stmt S values) (new_end S all values) keep (k + 1) bs) →
+          AllOf (IsSpellableBlock profile) (if t then record { label = b.label; body = new_body (new_stmt S values) k 0 b.body; end = new_end S all values k b.end } ∷ new_blocks (new_stmt S values) (new_end S all values) keep (k + 1) bs else new_blocks (new_stmt S values) (new_end S all values) keep (k + 1) bs)
       by true more = ((h.0.0, body_spelled k 0 b.body h.0.1, end_at_spelled b.end _ h.0.2), more)
       by false more = more
 
 -- ---- the program
 
-folded_spelled : (p : Program) (n : ℕ) (f : Function) (facts : Facts) (most : ℕ) (ts : List ℤ) (xs : List (Lifted (List AbsVal))) (g : Function) → FoldsBy p n f facts most ts xs g → IsSpellable p → IsSpellable (replaced p n g)
+folded_spelled : (p : Sealed) (n : ℕ) (f : Function) (facts : Facts) (most : ℕ) (ts : List ℤ) (xs : List (Lifted (List AbsVal))) (g : Function) → FoldsBy p n f facts most ts xs g → IsSpellable p.program → IsSpellable (replaced p n g).program
 folded_spelled p n f facts most ts xs g folds h =
-    let old : IsSpellableFunction f = all_at IsSpellableFunction p.functions n f h.functions folds.own in
-    let new : IsSpellableFunction g = subst IsSpellableFunction (sym folds.folded.is) (record {
+    let profile : ℕ = p.program.profile in
+    let old : IsSpellableFunction profile f = all_at (IsSpellableFunction profile) p.program.functions n f h.functions folds.own in
+    let new : IsSpellableFunction profile g = subst (IsSpellableFunction profile) (sym folds.folded.is) (record {
       name = old.name;
       params = old.params;
       locals = old.locals;
       registers = old.registers;
-      blocks = blocks_spelled (folding_of p n f facts most ts) (values_at (body_of p n f facts most ts) f.blocks xs) f.blocks folds.folded.keep h.globals 0 f.blocks old.blocks;
+      blocks = blocks_spelled (folding_of p n f facts most ts) (values_at (body_of p n f facts most ts) f.blocks xs) f.blocks folds.folded.keep h.globals profile 0 f.blocks old.blocks;
     }) in
-    record { structs = h.structs; globals = h.globals; functions = all_set IsSpellableFunction p.functions n g h.functions new }
+    record { profile = h.profile; structs = h.structs; globals = h.globals; functions = all_set (IsSpellableFunction profile) p.program.functions n g h.functions new }
 
-pub fold_has_text : FoldHasText
-fold_has_text p n f facts t g folds text =
-    (spellable_has_text (replaced p n g)).0 (folded_spelled p n f facts t.limits.size t.limits.ends folds.values.begins g (folds_by p n f facts t g folds) ((spellable_has_text p).1 text))
+pub fold_is_spellable : FoldIsSpellable
+fold_is_spellable p n f facts t g folds h = folded_spelled p n f facts t.limits.size t.limits.ends folds.values.begins g (folds_by p n f facts t g folds) h

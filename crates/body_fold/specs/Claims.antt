@@ -3,13 +3,13 @@ use Rattle.std.specs.Prelude.{◌≡◌, ℕ, ℤ, true, List, Some, None, slice
 use Rattle.std.specs.List.{list_all}
 use Rattle.gimple_ir.specs.declared.scalar.Scalar.TheVariants.{I64}
 use Rattle.gimple_ir.specs.declared.program.Function.{Function}
-use Rattle.gimple_ir.specs.declared.program.Program.{Program}
+use Rattle.gimple_ir.specs.Spellable.{IsSpellable}
 use Rattle.gimple_core.specs.Accepted.{first_fault}
 use Rattle.gimple_core.specs.Operators.{in_scalar}
+use Rattle.gimple_core.specs.Sealed.{Sealed, with_functions}
 use Rattle.gimple_core.specs.Run.{Run}
 use Rattle.gimple_core.specs.Trace.{InEachRun}
 use Rattle.gimple_claims.specs.Bodies.{FactsClaim}
-use Rattle.gimple_text.specs.CanonLaws.{HasText}
 use Rattle.value_domain.specs.Thresholds.{IsLawful}
 use Rattle.body_values.specs.declared.facts.Facts.{Facts}
 use Rattle.body_values.specs.Claims.{given_of}
@@ -17,14 +17,14 @@ use Rattle.body_values.specs.Found.{Found, AreFound}
 use Rattle.body_values.specs.System.{FactsFit}
 use Rattle.body_fold.specs.Folders.{IsFoldOf}
 
--- the function of this number replaced
-abbrev pub replaced : Program → ℕ → Function → Program
-replaced p n g = record p { functions = slice_set p.functions n g }
+-- the function of this number replaced; the mode and the profile stay
+abbrev pub replaced : Sealed → ℕ → Function → Sealed
+replaced p n g = with_functions p (slice_set p.program.functions n g)
 
 -- A function of a program without a type fault, with the constants put in that are known by its values from facts that fit.
-pub record Folds (p : Program) (n : ℕ) (f : Function) (facts : Facts) (t : Found) (g : Function) : Type 0 where
-  pub accepted : first_fault p ≡ None
-  pub own : slice_get p.functions n ≡ Some f
+pub record Folds (p : Sealed) (n : ℕ) (f : Function) (facts : Facts) (t : Found) (g : Function) : Type 0 where
+  pub accepted : first_fault p.program ≡ None
+  pub own : slice_get p.program.functions n ≡ Some f
   pub lawful : IsLawful t.limits.ends
   pub fit : FactsFit f facts t.limits.size t.limits.ends
   pub values : AreFound p n f facts t.limits t
@@ -32,13 +32,13 @@ pub record Folds (p : Program) (n : ℕ) (f : Function) (facts : Facts) (t : Fou
 
 -- where the facts hold in each run, the program with the folded function runs as the program does
 abbrev pub FoldKeepsRun : Type 0
-FoldKeepsRun = (p : Program) (n : ℕ) (f : Function) (facts : Facts) (t : Found) (g : Function) → Folds p n f facts t g → InEachRun p (FactsClaim f (given_of n f facts)) →
+FoldKeepsRun = (p : Sealed) (n : ℕ) (f : Function) (facts : Facts) (t : Found) (g : Function) → Folds p n f facts t g → InEachRun p (FactsClaim f (given_of n f facts)) →
     (input : List ℤ) → list_all (in_scalar I64) input ≡ true → (turns : ℕ) → Run p input turns ≡ Run (replaced p n g) input turns
 
 -- it has no type fault
 abbrev pub FoldIsAccepted : Type 0
-FoldIsAccepted = (p : Program) (n : ℕ) (f : Function) (facts : Facts) (t : Found) (g : Function) → Folds p n f facts t g → first_fault (replaced p n g) ≡ None
+FoldIsAccepted = (p : Sealed) (n : ℕ) (f : Function) (facts : Facts) (t : Found) (g : Function) → Folds p n f facts t g → first_fault (replaced p n g).program ≡ None
 
--- some text spells it where some text spells the program
-abbrev pub FoldHasText : Type 0
-FoldHasText = (p : Program) (n : ℕ) (f : Function) (facts : Facts) (t : Found) (g : Function) → Folds p n f facts t g → HasText p → HasText (replaced p n g)
+-- a text can spell it where one can spell the program
+abbrev pub FoldIsSpellable : Type 0
+FoldIsSpellable = (p : Sealed) (n : ℕ) (f : Function) (facts : Facts) (t : Found) (g : Function) → Folds p n f facts t g → IsSpellable p.program → IsSpellable (replaced p n g).program

@@ -25,7 +25,7 @@ use Rattle.gimple_ir.specs.declared.block.End.TheVariants.{Goto, If, Switch, Ret
 use Rattle.gimple_ir.specs.declared.program.Function.{Function}
 use Rattle.gimple_core.specs.Operators.{wrapped}
 use Rattle.gimple_core.specs.State.{offset_in}
-use Rattle.gimple_core.specs.Run.{arith_of, compares, one_if, any_number, case_for, block_place, place_or, converted}
+use Rattle.gimple_core.specs.Run.{arith_of, compares, one_if, any_number, case_for, converted}
 use Rattle.gimple_core.specs.Verdict.{Verdict, ◌>>◌, demand}
 use Rattle.gimple_core.specs.Env.{Env, Names, named}
 use Rattle.gimple_core.specs.Statements as check
@@ -36,7 +36,7 @@ use Rattle.value_domain.specs.declared.abs_val.AbsVal.{AbsVal}
 use Rattle.value_domain.specs.AbsOperators.{first_constant, known_of, may_trap_of}
 use Rattle.value_domain.specs.Holding.{constant_of}
 use Rattle.body_values.specs.Bodies.{Body, register_scalar, is_local, global_place, operand_value, right_scalar, sides_scalar, compare_value, target_of, result_value}
-use Rattle.body_values.specs.Flow.{labels_of, body_at}
+use Rattle.body_values.specs.Flow.{block_place, place_or, labels_of, body_at}
 
 -- What the constants in a body depend on: what the function sees, the other functions, and the setting of its values.
 pub record Folding : Type 0 where

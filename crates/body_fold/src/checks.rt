@@ -1,12 +1,12 @@
 //! Whether an operand passes the check of the place where it is put.
 
 ghost use Rattle.std.specs.Prelude.{◌≡◌, ◌&&◌, ◌||◌, not};
-ghost use Rattle.gimple_core.specs.Env.{is_variable};
+ghost use Rattle.gimple_core.specs.Env.{is_target, is_variable};
 ghost use Rattle.gimple_core.specs.Memory.{same_scalar};
 ghost use Rattle.gimple_core.specs.Statements as check;
-ghost use Rattle.value_domain.specs.ConstantOperators.{is_pointer};
 ghost use Rattle.body_fold.specs.Fold.{passes, right_check};
 ghost use Rattle.body_fold.specs.Folders.{folding_in, IsFolder};
+ghost use Rattle.body_fold.specs.Putting.{address_passes};
 
 use crate::folder::Folder;
 use body_values::pointer;
@@ -39,6 +39,28 @@ impl<'a> Folder<'a> {
         self.scene.locals.has(name) || self.scene.globals.has(name)
     }
 
+    /// Whether a function of the name may be addressed.
+    fn is_target(&self, name: &Text) -> bool
+        requires folder { IsFolder self.now }
+        ensures { result ≡ is_target (folding_in self.now).env.targets name.now }
+    {
+        if self.tables.program().profile != 2 {
+            return false;
+        }
+        self.tables.named_function(name).is_some()
+    }
+
+    /// Whether the address of a name at an offset passes its check: that of a variable, or of a function at no offset.
+    fn admits_address(&self, name: &Text, offset: i128) -> bool
+        requires folder { IsFolder self.now }
+        ensures { result ≡ address_passes (folding_in self.now).env name.now offset }
+    {
+        if self.is_variable(name) {
+            return fits(Scalar::I64, offset);
+        }
+        offset == 0 && self.is_target(name)
+    }
+
     /// Whether an operand passes the check of a place for a scalar.
     pub(crate) fn admits(&self, scalar: Scalar, operand: &Operand) -> bool
         requires folder { IsFolder self.now }
@@ -52,7 +74,7 @@ impl<'a> Folder<'a> {
             Operand::Number(value) => !pointer(scalar) && fits(scalar, *value),
             Operand::Null => pointer(scalar),
             Operand::Address { variable, offset } => {
-                pointer(scalar) && (self.is_variable(variable) && fits(Scalar::I64, *offset))
+                pointer(scalar) && self.admits_address(variable, *offset)
             }
         }
     }
@@ -60,7 +82,7 @@ impl<'a> Folder<'a> {
     /// Whether an operand passes the check of a place for an integer of a scalar.
     fn admits_integer(&self, scalar: Scalar, operand: &Operand) -> bool
         requires folder { IsFolder self.now }
-        ensures { result ≡ (passes (check.operand (folding_in self.now).env 4 scalar operand.now) && not (is_pointer scalar)) }
+        ensures { result ≡ (passes (check.operand (folding_in self.now).env 4 scalar operand.now) && not (check.is_pointer scalar)) }
     {
         self.admits(scalar, operand) && !pointer(scalar)
     }
@@ -76,7 +98,7 @@ impl<'a> Folder<'a> {
     /// Whether both sides of a comparison pass the check of a place for a scalar, and it may be compared so.
     fn admits_sides(&self, scalar: Scalar, left: &Operand, cmp: Cmp, right: &Operand) -> bool
         requires folder { IsFolder self.now }
-        ensures { result ≡ (passes (check.operand (folding_in self.now).env 4 scalar left.now) && (passes (check.operand (folding_in self.now).env 4 scalar right.now) && (not (is_pointer scalar) || not (check.is_order cmp)))) }
+        ensures { result ≡ (passes (check.operand (folding_in self.now).env 4 scalar left.now) && (passes (check.operand (folding_in self.now).env 4 scalar right.now) && (not (check.is_pointer scalar) || not (check.is_order cmp)))) }
     {
         self.admits(scalar, left)
             && (self.admits(scalar, right) && (!pointer(scalar) || !is_order(cmp)))

@@ -82,7 +82,7 @@ impl<'a> Folder<'a> {
     ) -> Result<Option<Constant>, OutOfMemory>
         requires folder { IsFolder self.now }
         requires fit { Fit self.now.scene row.now }
-        ensures { IfOk result (λ c. c ≡ evaluated_arithmetic scalar (known_operand (body_in self.now.scene) row.now left.now) op (known_operand (body_in self.now.scene) row.now right.now)) }
+        ensures { IfOk result (λ c. c ≡ evaluated_arithmetic (body_in self.now.scene).mode scalar (known_operand (body_in self.now.scene) row.now left.now) op (known_operand (body_in self.now.scene) row.now right.now)) }
     {
         let Some(first) = self.known_operand(row, left)? else {
             return Ok(None);
@@ -90,7 +90,7 @@ impl<'a> Folder<'a> {
         let Some(second) = self.known_operand(row, right)? else {
             return Ok(None);
         };
-        Ok(arithmetic(scalar, first, op, second))
+        Ok(arithmetic(self.scene.program.mode(), scalar, first, op, second))
     }
 
     /// The result of a conversion of a register that is known.
@@ -185,7 +185,8 @@ impl<'a> Folder<'a> {
         let other = self.scene.right_of(scalar, op, right);
         let first = self.scene.operand(row, scalar, left)?;
         let second = self.scene.operand(row, other, right)?;
-        Ok(may_trap(op, scalar, &first, &second))
+        let mode = self.scene.program.mode();
+        Ok(may_trap(mode, op, scalar, &first, &second))
     }
 
     /// Whether a statement that passes its checks has a result that can be known by its value, and cannot trap.

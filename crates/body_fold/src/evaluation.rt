@@ -8,7 +8,7 @@ ghost use Rattle.gimple_core.specs.State.{number_in};
 ghost use Rattle.body_fold.specs.Fold.{value_of_constant, result_constant};
 ghost use Rattle.value_domain.specs.Holding.{constant_of};
 
-use gimple_core::{Cmp, Constant, Op, Scalar, eval_cmp, eval_op, fits, wrap};
+use gimple_core::{Cmp, Constant, Mode, Op, Scalar, eval_cmp, eval_op, fits, wrap};
 
 /// A constant as a number of a scalar; what is none of it counts as 0.
 #[tactic(auto, unfolding(gimple_core::specs::State::number_in))]
@@ -67,20 +67,22 @@ fn moved(constant: Constant, by: i128) -> Constant
     }
 }
 
-/// The result of an operator for a target of a scalar; None exactly where it traps.
+/// The result of an operator in a mode, for a target of a scalar; None exactly where it traps.
 #[tactic(auto, unfolding(gimple_core::specs::Run::arith_of))]
 pub(crate) fn arithmetic(
+    mode: Mode,
     scalar: Scalar,
     left: Constant,
     op: Op,
     right: Constant,
 ) -> Option<Constant>
-    ensures { result ≡ result_constant (arith_of scalar (value_of_constant left) op (value_of_constant right)) }
+    ensures { result ≡ result_constant (arith_of mode scalar (value_of_constant left) op (value_of_constant right)) }
 {
     if let Scalar::Ptr = scalar {
         return Some(moved(left, any_of(right)));
     }
     let found = eval_op(
+        mode,
         op,
         scalar,
         number_of(scalar, left),

@@ -28,7 +28,7 @@ fn folder_of<'a>(
 {
     Folder {
         scene: Scene {
-            program: tables.program(),
+            program: tables.checked(),
             structs: tables.structs(),
             globals: tables.globals(),
             locals,
@@ -110,8 +110,8 @@ pub fn fold_in(
     function: u32,
     values: &BodyValues,
 ) -> Result<Function, OutOfMemory>
-    requires globals { length tables.now.program.globals < 2 ^ 32 }
-    requires size { size_of_program tables.now.program < 2 ^ 32 }
+    requires globals { length tables.now.program.program.globals < 2 ^ 32 }
+    requires size { size_of_program tables.now.program.program < 2 ^ 32 }
     requires values { WereFound tables.now.program function values.now }
     ensures { IfOk result (IsFoldOf tables.now.program function values.now) }
 {
@@ -135,8 +135,8 @@ pub fn fold(
 ) -> Result<Function, OutOfMemory>
     requires globals { length program.now.program.globals < 2 ^ 32 }
     requires size { size_of_program program.now.program < 2 ^ 32 }
-    requires values { WereFound program.now.program function values.now }
-    ensures { IfOk result (IsFoldOf program.now.program function values.now) }
+    requires values { WereFound program.now function values.now }
+    ensures { IfOk result (IsFoldOf program.now function values.now) }
 {
     let limits = values.limits().copy()?;
     let tables = ProgramTables::with(alloc, program, limits)?;

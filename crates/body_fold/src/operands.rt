@@ -11,8 +11,10 @@ ghost use Rattle.body_fold.specs.Putting.{put_in, argument_of};
 
 use crate::folder::Folder;
 use gimple_core::{
-    Cmp, Constant, Exact, Listed, Op, Operand, Operands, OutOfMemory, Register, Scalar, Text,
+    Cmp, Constant, Exact, Listed, Op, Operand, Operands, OutOfMemory, Register, Scalar, Scalars,
+    Text,
 };
+use std::alloc::Global;
 use value_domain::AbsVal;
 
 /// Both sides of a comparison.
@@ -20,6 +22,17 @@ use value_domain::AbsVal;
 pub(crate) struct Sides {
     pub(crate) left: Operand,
     pub(crate) right: Operand,
+}
+
+/// The scalars of registers in order.
+fn scalars_of(alloc: Global, registers: &[Register]) -> Result<Scalars, OutOfMemory>
+    ensures { IfOk result (λ ss. ss ≡ check.scalars_of registers.now) }
+{
+    let mut scalars = Listed::new(alloc);
+    for register in registers {
+        scalars.push(register.scalar)?;
+    }
+    Ok(scalars)
 }
 
 impl<'a> Folder<'a> {
@@ -198,22 +211,22 @@ impl<'a> Folder<'a> {
         }
     }
 
-    /// The formals of a function by name; of no function there are none.
-    pub(crate) fn formals(&self, callee: &Text) -> &'a [Register]
+    /// The scalars of the formals of a function by name; of no function there are none.
+    pub(crate) fn formals(&self, callee: &Text) -> Result<Scalars, OutOfMemory>
         requires folder { IsFolder self.now }
-        ensures { result.now ≡ formals_of (named callee.now (folding_in self.now).names) }
+        ensures { IfOk result (λ ss. ss ≡ formals_of (named callee.now (folding_in self.now).names)) }
     {
         match self.tables.named_function(callee) {
-            Some(function) => function.params.as_slice(),
-            None => &[],
+            Some(function) => scalars_of(self.scene.alloc, function.params.as_slice()),
+            None => Ok(Listed::new(self.scene.alloc)),
         }
     }
 
-    /// An argument against its formal.
+    /// An argument against the scalar of its formal.
     fn argument(
         &self,
         row: &[AbsVal],
-        formal: Option<&Register>,
+        formal: Option<&Scalar>,
         argument: &Operand,
     ) -> Result<Operand, OutOfMemory>
         requires folder { IsFolder self.now }
@@ -222,15 +235,15 @@ impl<'a> Folder<'a> {
     {
         match formal {
             None => argument.copy(),
-            Some(formal) => self.operand(row, formal.scalar, argument),
+            Some(scalar) => self.operand(row, *scalar, argument),
         }
     }
 
-    /// The arguments of a call against its formals.
+    /// The arguments of a call against the scalars of its formals.
     pub(crate) fn arguments(
         &self,
         row: &[AbsVal],
-        formals: &[Register],
+        formals: &[Scalar],
         arguments: &[Operand],
     ) -> Result<Operands, OutOfMemory>
         requires folder { IsFolder self.now }

@@ -10,7 +10,9 @@ ghost use Rattle.body_fold.specs.Folders.{folding_in, IsFolder};
 use crate::folder::Folder;
 use crate::places::Access;
 use body_values::{scalar_of, target};
-use gimple_core::{Cmp, Exact, Op, Operand, Operands, OutOfMemory, Place, Scalar, Stmt, Text};
+use gimple_core::{
+    Cmp, Exact, Op, Operand, Operands, OutOfMemory, Place, Scalar, Signature, Stmt, Text,
+};
 use value_domain::AbsVal;
 
 impl<'a> Folder<'a> {
@@ -136,10 +138,35 @@ impl<'a> Folder<'a> {
         requires fit { Fit self.now.scene row.now }
         ensures { IfOk result (λ x. x ≡ with_operands (folding_in self.now) row.now scalar (Stmt.Call to.now callee.now arguments.now)) }
     {
+        let formals = self.formals(callee)?;
         Ok(Stmt::Call {
             to: to.copy()?,
             callee: callee.copy()?,
-            arguments: self.arguments(row, self.formals(callee), arguments.as_slice())?,
+            arguments: self.arguments(row, formals.as_slice(), arguments.as_slice())?,
+        })
+    }
+
+    /// A call through a register, with constants in the places of arguments.
+    #[tactic(auto, unfolding(crate::specs::Fold::with_operands))]
+    fn called_through(
+        &self,
+        row: &[AbsVal],
+        scalar: Scalar,
+        to: &Option<Text>,
+        signature: &Signature,
+        callee: &Text,
+        arguments: &Operands,
+    ) -> Result<Stmt, OutOfMemory>
+        requires folder { IsFolder self.now }
+        requires fit { Fit self.now.scene row.now }
+        ensures { IfOk result (λ x. x ≡ with_operands (folding_in self.now) row.now scalar (Stmt.Indirect to.now signature.now callee.now arguments.now)) }
+    {
+        let written = signature.params.as_slice();
+        Ok(Stmt::Indirect {
+            to: to.copy()?,
+            signature: signature.copy()?,
+            callee: callee.copy()?,
+            arguments: self.arguments(row, written, arguments.as_slice())?,
         })
     }
 
@@ -201,6 +228,12 @@ impl<'a> Folder<'a> {
                 callee,
                 arguments,
             } => self.called(row, scalar, to, callee, arguments),
+            Stmt::Indirect {
+                to,
+                signature,
+                callee,
+                arguments,
+            } => self.called_through(row, scalar, to, signature, callee, arguments),
             Stmt::Get { to: _ } => statement.copy(),
             Stmt::Put { from } => self.put_out(row, scalar, from),
             Stmt::Abort => statement.copy(),

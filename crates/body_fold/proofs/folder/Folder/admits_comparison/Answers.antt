@@ -1,7 +1,6 @@
 use Rattle.std.proofs.Common.{◌∙◌, sym, ap, not, ◌&&◌, ◌||◌}
 use Rattle.gimple_ir.specs.declared.scalar.Scalar.{Scalar}
 use Rattle.gimple_core.specs.Statements as check
-use Rattle.value_domain.specs.ConstantOperators.{is_pointer}
 use Rattle.body_values.specs.Scenes.{body_in}
 use Rattle.body_fold.specs.Fold.{passes}
 use Rattle.body_fold.specs.Folders.{folding_in}
@@ -11,5 +10,5 @@ use Rattle.body_fold.proofs.folder.Folder.admits_comparison.Goals as goal
 pub returns : goal.returns
 returns c =
     c.admits_sides.ensures
-    ∙ (ap (λ (z : Scalar). passes (check.operand (folding_in c.args.self.now).env 4 z c.args.left.now) && (passes (check.operand (folding_in c.args.self.now).env 4 z c.args.right.now) && (not (is_pointer z) || not (check.is_order c.args.cmp)))) c.sides_of.ensures
-    ∙ sym (compared_is c.args.self.now.scene.program.now c.args.self.now.function.now (body_in c.args.self.now.scene) c.requires.folder.registers c.args.left.now c.args.cmp c.args.right.now))
+    ∙ (ap (λ (z : Scalar). passes (check.operand (folding_in c.args.self.now).env 4 z c.args.left.now) && (passes (check.operand (folding_in c.args.self.now).env 4 z c.args.right.now) && (not (check.is_pointer z) || not (check.is_order c.args.cmp)))) c.sides_of.ensures
+    ∙ sym (compared_is c.args.self.now.scene.program.now.program c.args.self.now.function.now (body_in c.args.self.now.scene) c.requires.folder.registers c.args.left.now c.args.cmp c.args.right.now))
