@@ -11,7 +11,7 @@ use Rattle.gimple_core.specs.Verdict.{demand}
 use Rattle.gimple_core.specs.Declarations as d
 use Rattle.gimple_core.proofs.Passed.{first_passed, both_pass, demanded, demand_passes}
 use Rattle.gimple_claims.specs.Kept.{new_body, new_blocks}
-use Rattle.gimple_claims.proofs.Blocks.{label_at}
+use Rattle.gimple_claims.proofs.Blocks.{number_in, label_at}
 use Rattle.gimple_claims.proofs.Checked.{ok_same}
 use Rattle.body_values.specs.Flow.{block_place, place_or}
 
@@ -39,8 +39,11 @@ block_listed to bs x e = from_listed to 0 bs x e
 
 -- ---- the number of a block that is found is its place
 
+here : (n k : ℕ) → n ≡ k → n + 0 ≡ k
+here n k same = omega (arith, same)
+
 place_by : (n k : ℕ) (b c : Block) (o : Option (ℕ × Block)) (m : ℕ) → (o ≡ Some (k, b) → n + 1 + m ≡ k) → (t : Bool) → (if t then Some (n, c) else o) ≡ Some (k, b) → n + cond (not t) (1 + m) 0 ≡ k
-place_by n k b c o m more true e = let pair : (n, c) ≡ (k, b) = cc in let same : n ≡ k = ap (λ (x : ℕ × Block). x.0) pair in omega (arith, same)
+place_by n k b c o m more true e = let pair : (n, c) ≡ (k, b) = cc in here n k (ap number_in pair)
 place_by n k b c o m more false e = let rest = more e in omega (arith, rest)
 
 from_place : (to n k : ℕ) (bs : List Block) (b : Block) → block_from to n bs ≡ Some (k, b) → n + position_or_len (λ (x : Block). x.label == to) bs ≡ k
@@ -54,7 +57,8 @@ number_by false n k e h = cc
 
 pub block_number : (to : ℕ) (bs : List Block) (k : ℕ) (b : Block) → labelled to bs ≡ Some (k, b) → place_or (block_place to bs) ≡ k
 block_number to bs k b e =
-    let place : position_or_len (λ (x : Block). x.label == to) bs ≡ k = from_place to 0 k bs b e in
+    let from = from_place to 0 k bs b e in
+    let place : position_or_len (λ (x : Block). x.label == to) bs ≡ k = omega (arith, from) in
     let within : k < length bs = slice_get_within bs k b (label_at to k bs b e) in
     number_by _ (position_or_len (λ (x : Block). x.label == to) bs) k (lt-ltb (position_or_len (λ (x : Block). x.label == to) bs) (length bs) (omega (arith, place, within))) place
 

@@ -32,7 +32,6 @@ use Rattle.gimple_core.specs.Declarations as d
 use Rattle.gimple_core.proofs.Passed.{first_passed, both_pass, demand_passes, at_passed, at_passes}
 use Rattle.gimple_core.proofs.ProgramTyped.{own_is, own_has_blocks}
 use Rattle.gimple_core.proofs.SameChecks.{SameTarget, Alike, all_alike, statement_re, compared_re, integer_re, returned_re}
-use Rattle.gimple_claims.proofs.Checked.{ok_same}
 
 -- the same but for the functions that may be addressed and the labels
 abbrev pub seen_with : Env → Targets → List ℕ → Env
@@ -162,7 +161,8 @@ own_labels known out names f h =
     let r = first_passed (d.registers q.0 names f.registers) _ out q.2 in
     let k = first_passed (demand (d.has_blocks f.blocks) 10) _ out r.2 in
     let t = first_passed (d.labels [] f.blocks) _ out k.2 in
-    subst (λ (e : Env). d.labels [] f.blocks ≡ Ok e.labels) (ok_same t.2) t.1
+    let same : record r.0 { labels = t.0 } ≡ out = cc in
+    subst (λ (e : Env). d.labels [] f.blocks ≡ Ok e.labels) same t.1
 
 module _ (names more : Names Function) (e : SameHeads names more) (ts : Targets) where
   -- with the other functions that may be addressed
