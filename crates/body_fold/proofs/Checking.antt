@@ -1,9 +1,11 @@
 -- What the checks of operands ask for.
-use Rattle.std.proofs.Common.{◌≡◌, ℕ, ℤ, pos, Bool, true, false, not, cond, ◌||◌, ◌&&◌, if◌then◌else◌, List, [], ◌∷◌, ◌++◌, map, refl, sym, ◌∙◌, ap, Option, Some, None, Ok, Err}
+use Rattle.std.proofs.Common.{◌≡◌, ℕ, ℤ, pos, Bool, true, false, not, cond, ◌||◌, ◌&&◌, if◌then◌else◌, List, [], ◌∷◌, ◌++◌, map, refl, sym, ◌∙◌, ap, Option, Some, None, Ok, Err, Bor}
 use Rattle.std.specs.Prelude.{is_some}
 use Rattle.std.specs.List.{find, list_any}
+use Rattle.std.specs.Option.{option_copied}
 use Rattle.std.specs.Ordering.{int_eq}
 use Rattle.std.specs.Str.{bytes_eq}
+use Rattle.std.proofs.lemmas.Bool.{eq-eqb}
 use Rattle.std.proofs.lemmas.Bool.Decides.{Decides-int_eq}
 use Rattle.std.proofs.lemmas.List.{map-append}
 use Rattle.gimple_ir.specs.declared.scalar.Scalar.{Scalar}
@@ -20,7 +22,7 @@ use Rattle.gimple_ir.specs.declared.program.Program.{Program}
 use Rattle.gimple_core.specs.Memory.{same_scalar}
 use Rattle.gimple_core.specs.Operators.{in_scalar}
 use Rattle.gimple_core.specs.Verdict.{Verdict, ◌>>=◌, ◌>>◌, demand}
-use Rattle.gimple_core.specs.Env.{Env, named, has, is_target, is_variable, scalar_of}
+use Rattle.gimple_core.specs.Env.{Env, named, has, targets_of, functions_by_name, is_target, is_variable, scalar_of}
 use Rattle.gimple_core.specs.Statements as s
 use Rattle.gimple_core.proofs.EnvLemmas.{same_test as same_key, named_find}
 use Rattle.gimple_claims.specs.Checks.{env_of}
@@ -75,6 +77,16 @@ register_is : (p : Program) (f : Function) (rs : List Register) (name : List ℕ
 register_is p f rs name e =
     sym (ap (named name) (map-append (λ (x : Register). (x.name, x)) f.params f.registers))
     ∙ (named_find (λ (x : Register). x.name) name (f.params ++ f.registers) ∙ ap (find (λ (r : Register). bytes_eq r.name name)) (sym e))
+
+-- ---- functions that may be addressed
+
+pub copied_is : {T : Type 0} (o : Option (Bor T)) → is_some (option_copied o) ≡ is_some o
+copied_is None = refl
+copied_is (Some x) = refl
+
+pub target_there : (p : Program) (name : List ℕ) → p.profile ≡ 2 → is_some (find (λ (f : Function). bytes_eq f.name name) p.functions) ≡ is_target (targets_of p) name
+target_there p name e =
+    sym (ap (λ b. is_target (if b then Some (functions_by_name p.functions) else None) name) (eq-eqb p.profile 2 e) ∙ ap is_some (named_find (λ (f : Function). f.name) name p.functions))
 
 -- ---- an operand
 

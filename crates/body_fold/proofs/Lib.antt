@@ -14,6 +14,8 @@ pub mod Ending
 pub mod Labels
 pub mod Accepted
 pub mod Spelled
+pub mod Counted
+pub mod Replacing
 pub mod Rows
 pub mod RowMain
 pub mod Goods

@@ -30,7 +30,8 @@ use Rattle.value_domain.specs.declared.abs_val.AbsVal.{AbsVal}
 use Rattle.body_values.specs.declared.facts.Facts.{Facts}
 use Rattle.body_values.specs.Claims.{given_of}
 use Rattle.body_fold.specs.Fold.{new_stmt, new_end, first}
-use Rattle.body_fold.specs.Claims.{replaced, FoldKeepsRun}
+use Rattle.body_values.specs.Found.{Found}
+use Rattle.body_fold.specs.Claims.{replaced, Folds}
 use Rattle.body_fold.proofs.FoldsBy.{FoldsBy, folds_by}
 use Rattle.body_fold.specs.Folders.{NamesMean}
 use Rattle.body_fold.proofs.Acting.{exit_is}
@@ -277,6 +278,7 @@ module _ (p : Sealed) (n : ℕ) (f : Function) (facts : Facts) (most : ℕ) (ts 
   pub run_same : (turns : ℕ) → Run p input turns ≡ Run (replaced p n g) input turns
   run_same turns = instances_run I Fits p gs input specialises turns
 
-pub fold_keeps_run : FoldKeepsRun
+pub fold_keeps_run : (p : Sealed) (n : ℕ) (f : Function) (facts : Facts) (t : Found) (g : Function) → Folds p n f facts t g → InEachRun p (FactsClaim f (given_of n f facts)) →
+    (input : List ℤ) → list_all (in_scalar I64) input ≡ true → (turns : ℕ) → Run p input turns ≡ Run (replaced p n g) input turns
 fold_keeps_run p n f facts t g folds all input numbers turns =
     run_same p n f facts t.limits.size t.limits.ends folds.values.begins g (folds_by p n f facts t g folds) all (names_mean p.program n f folds.accepted folds.own) input numbers turns

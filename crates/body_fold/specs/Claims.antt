@@ -1,13 +1,10 @@
 -- What is promised of a function with its known constants put in.
-use Rattle.std.specs.Prelude.{◌≡◌, ℕ, ℤ, true, List, Some, None, slice_get, slice_set}
-use Rattle.std.specs.List.{list_all}
-use Rattle.gimple_ir.specs.declared.scalar.Scalar.TheVariants.{I64}
+use Rattle.std.specs.Prelude.{◌≡◌, ℕ, Some, None, slice_get, slice_set}
 use Rattle.gimple_ir.specs.declared.program.Function.{Function}
 use Rattle.gimple_ir.specs.Spellable.{IsSpellable}
 use Rattle.gimple_core.specs.Accepted.{first_fault}
-use Rattle.gimple_core.specs.Operators.{in_scalar}
 use Rattle.gimple_core.specs.Sealed.{Sealed, with_functions}
-use Rattle.gimple_core.specs.Run.{Run}
+use Rattle.gimple_core.specs.Replacing.{Replaces}
 use Rattle.gimple_core.specs.Trace.{InEachRun}
 use Rattle.gimple_claims.specs.Bodies.{FactsClaim}
 use Rattle.value_domain.specs.Thresholds.{IsLawful}
@@ -30,12 +27,11 @@ pub record Folds (p : Sealed) (n : ℕ) (f : Function) (facts : Facts) (t : Foun
   pub values : AreFound p n f facts t.limits t
   pub folded : IsFoldOf p n t g
 
--- where the facts hold in each run, the program with the folded function runs as the program does
-abbrev pub FoldKeepsRun : Type 0
-FoldKeepsRun = (p : Sealed) (n : ℕ) (f : Function) (facts : Facts) (t : Found) (g : Function) → Folds p n f facts t g → InEachRun p (FactsClaim f (given_of n f facts)) →
-    (input : List ℤ) → list_all (in_scalar I64) input ≡ true → (turns : ℕ) → Run p input turns ≡ Run (replaced p n g) input turns
+-- where the facts hold in each run, the program with the folded function may replace the program: it runs as that one does, and has no more parts
+abbrev pub FoldReplaces : Type 0
+FoldReplaces = (p : Sealed) (n : ℕ) (f : Function) (facts : Facts) (t : Found) (g : Function) → Folds p n f facts t g → InEachRun p (FactsClaim f (given_of n f facts)) → Replaces 1 p (replaced p n g)
 
--- it has no type fault
+-- whatever the facts, it has no type fault
 abbrev pub FoldIsAccepted : Type 0
 FoldIsAccepted = (p : Sealed) (n : ℕ) (f : Function) (facts : Facts) (t : Found) (g : Function) → Folds p n f facts t g → first_fault (replaced p n g).program ≡ None
 

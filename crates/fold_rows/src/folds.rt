@@ -6,7 +6,7 @@ ghost use Rattle.gimple_ir.specs.Counts.{IsCountable};
 use body_fold::fold;
 use body_values::{top_facts, values_of};
 use fix_engine::RoundSolver;
-use gimple_core::{Checked, Function, OutOfMemory, Params, Text};
+use gimple_core::{Checked, Function, Mode, OutOfMemory, Params, Text};
 use gimple_text::{TextFault, parse, print};
 use gimple_types::{Refusal, accept};
 use std::alloc::Global;
@@ -29,14 +29,14 @@ const OPTIONS: Params = Params {
     modref_max_accesses: 16,
 };
 
-/// The program of a text. None where the text has no program, or one with a type fault.
-fn accepted(alloc: Global, text: &[u8]) -> Result<Option<Checked>, OutOfMemory>
+/// The program of a text, in a mode. None where the text has no program, or one with a type fault.
+fn accepted(alloc: Global, mode: Mode, text: &[u8]) -> Result<Option<Checked>, OutOfMemory>
     requires { length text.now ≤ 16777216 }
     ensures { IfOk result (λ found. IfSome found (λ checked. IsCountable checked.program)) }
 {
     match parse(alloc, text) {
         Ok(program) => match accept(alloc, program) {
-            Ok(checked) => Ok(Some(checked)),
+            Ok(checked) => Ok(Some(Checked::seal_as(checked.into_program(), mode))),
             Err(Refusal::Fault(_)) => Ok(None),
             Err(Refusal::Memory(error)) => Err(error),
         },
@@ -57,13 +57,18 @@ fn folded_function(alloc: Global, program: &Checked, number: u32) -> Result<Func
     fold(alloc, program, number, &values)
 }
 
-/// The canonical text of the program of a text, with the function of a number folded. None where the text is too long or
+/// The canonical text of the program of a text, with the function of a number folded in a mode. None where the text is too long or
 /// has no program without a type fault, or the program no function of this number.
-pub fn folded_text(alloc: Global, text: &[u8], number: u32) -> Result<Option<Text>, OutOfMemory> {
+pub fn folded_text(
+    alloc: Global,
+    mode: Mode,
+    text: &[u8],
+    number: u32,
+) -> Result<Option<Text>, OutOfMemory> {
     if text.len() > LIMIT {
         return Ok(None);
     }
-    let Some(checked) = accepted(alloc, text)? else {
+    let Some(checked) = accepted(alloc, mode, text)? else {
         return Ok(None);
     };
     if number as usize >= checked.program().functions.len() {

@@ -3,7 +3,11 @@
 
 #[cfg(test)]
 mod branch_rows;
+#[cfg(test)]
+mod call_rows;
 mod folds;
+#[cfg(test)]
+mod mode_rows;
 #[cfg(test)]
 mod operand_rows;
 #[cfg(test)]

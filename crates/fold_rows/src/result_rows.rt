@@ -2,6 +2,7 @@
 
 use crate::folds::folded_text;
 use crate::rows::{Row, folds_as};
+use gimple_core::Mode;
 use std::test::Fail as TestFail;
 
 const SMALL: &str = "gimple 1;
@@ -462,9 +463,9 @@ fn results(rt: HostRuntime) -> Result<(), TestFail> {
 fn no_function(rt: HostRuntime) -> Result<(), TestFail> {
     let alloc = rt.alloc();
     let good = b"gimple 1;\ni32 main () {\n  <bb 2>:\n    return 0;\n}\n";
-    assert!(rt; folded_text(alloc, good, 0)?.is_some());
-    assert!(rt; folded_text(alloc, good, 1)?.is_none());
-    assert!(rt; folded_text(alloc, b"gimple 1;\n", 0)?.is_none());
-    assert!(rt; folded_text(alloc, b"gimple 3;\n", 0)?.is_none());
+    assert!(rt; folded_text(alloc, Mode::Trap, good, 0)?.is_some());
+    assert!(rt; folded_text(alloc, Mode::Wrap, good, 1)?.is_none());
+    assert!(rt; folded_text(alloc, Mode::Trap, b"gimple 1;\n", 0)?.is_none());
+    assert!(rt; folded_text(alloc, Mode::Trap, b"gimple 3;\n", 0)?.is_none());
     Ok(())
 }

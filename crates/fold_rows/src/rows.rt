@@ -1,7 +1,7 @@
 //! The blocks of a function before and after it is folded.
 
 use crate::folds::folded_text;
-use gimple_core::{OutOfMemory, Text};
+use gimple_core::{Mode, OutOfMemory, Text};
 use std::alloc::Global;
 use std::test::Fail as TestFail;
 
@@ -21,14 +21,25 @@ fn with_blocks(alloc: Global, head: &str, blocks: &str) -> Result<Text, OutOfMem
     Ok(text)
 }
 
-/// Whether the last function of a program, which has this number, is folded as a row says.
-pub fn folds_as(alloc: Global, head: &str, number: u32, row: &Row) -> Result<bool, OutOfMemory> {
+/// Whether the last function of a program, which has this number, is folded in a mode as a row says.
+pub fn folds_in(
+    alloc: Global,
+    mode: Mode,
+    head: &str,
+    number: u32,
+    row: &Row,
+) -> Result<bool, OutOfMemory> {
     let source = with_blocks(alloc, head, row.before)?;
     let wanted = with_blocks(alloc, head, row.after)?;
-    match folded_text(alloc, source.as_slice(), number)? {
+    match folded_text(alloc, mode, source.as_slice(), number)? {
         Some(text) => Ok(text.as_slice() == wanted.as_slice()),
         None => Ok(false),
     }
+}
+
+/// Whether it is folded so where signed sums trap.
+pub fn folds_as(alloc: Global, head: &str, number: u32, row: &Row) -> Result<bool, OutOfMemory> {
+    folds_in(alloc, Mode::Trap, head, number, row)
 }
 
 /// A row has the answer no where its function is not folded as it says, and where its text is no program.

@@ -1,5 +1,5 @@
-use Rattle.body_fold.proofs.Running.{fold_keeps_run}
+use Rattle.body_fold.proofs.Replacing.{fold_replaces}
 use Rattle.body_fold.proofs.laws.folding_keeps_runs.Goals as goal
 
 pub returns : goal.returns
-returns c = fold_keeps_run
+returns c = fold_replaces

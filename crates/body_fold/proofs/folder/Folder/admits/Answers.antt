@@ -7,6 +7,7 @@ use Rattle.gimple_core.specs.Operators.{in_scalar}
 use Rattle.gimple_core.specs.Statements as check
 use Rattle.body_fold.specs.Fold.{passes}
 use Rattle.body_fold.specs.Folders.{folding_in}
+use Rattle.body_fold.specs.Putting.{address_passes}
 use Rattle.body_fold.proofs.Checking.{number_is, null_is, address_is, found_passes, lost_fails}
 use Rattle.body_fold.proofs.folder.Folder.admits.Goals as goal
 
@@ -47,7 +48,8 @@ returns-in-Null c =
 pub returns-then-pointer : goal.returns-then-pointer
 returns-then-pointer c =
     let pointer : check.is_pointer c.args.scalar ≡ true = search rules in
-    c.admits_address.ensures
+    let passed : c.admits_address.result ≡ address_passes (folding_in c.args.self.now).env c.in-Address.variable c.in-Address.offset = search rules in
+    passed
     ∙ sym (ap (λ (x : Operand). passes (check.operand (folding_in c.args.self.now).env 4 c.args.scalar x)) c.in-Address.is
     ∙ (address_is (folding_in c.args.self.now).env 4 c.args.scalar c.in-Address.variable c.in-Address.offset ∙ rw pointer refl))
 
