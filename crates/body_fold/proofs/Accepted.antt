@@ -13,8 +13,8 @@ use Rattle.gimple_ir.specs.declared.program.Function.{Function}
 use Rattle.gimple_ir.specs.declared.program.Program.{Program}
 use Rattle.gimple_core.specs.Sealed.{Sealed}
 use Rattle.gimple_ir.specs.declared.fault.Site.TheVariants as site
-use Rattle.gimple_core.specs.Run.{main_name, labelled}
-use Rattle.gimple_core.specs.Verdict.{◌>>◌, demand, at}
+use Rattle.gimple_core.specs.Run.{main_name}
+use Rattle.gimple_core.specs.Verdict.{demand, at}
 use Rattle.gimple_core.specs.Env.{Env, Names, Targets, has, targets_of, globals_by_name, functions_by_name}
 use Rattle.gimple_core.specs.Statements as s
 use Rattle.gimple_core.specs.Declarations as d

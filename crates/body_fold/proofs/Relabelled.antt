@@ -1,5 +1,5 @@
 -- The checks of statements look at neither labels nor the bodies of functions.
-use Rattle.std.proofs.Common.{◌≡◌, ℕ, ◌+◌, ◌==◌, Bool, true, false, not, ◌||◌, ◌&&◌, if◌then◌else◌, List, [], ◌∷◌, length, nat_le, refl, sym, ◌∙◌, ap, subst, Option, Some, None, Ok, pos}
+use Rattle.std.proofs.Common.{◌≡◌, ℕ, ◌+◌, ◌==◌, Bool, true, false, not, ◌||◌, if◌then◌else◌, List, [], ◌∷◌, length, nat_le, refl, sym, ◌∙◌, ap, subst, Option, Some, None, Ok, pos}
 use Rattle.std.specs.Prelude.{is_some}
 use Rattle.std.specs.Ordering.{int_eq}
 use Rattle.std.specs.List.{All}
@@ -26,7 +26,7 @@ use Rattle.gimple_core.specs.Layout.{layout_of}
 use Rattle.gimple_core.specs.Operators.{in_scalar}
 use Rattle.gimple_core.specs.Reach.{operands_of, operands_of_end}
 use Rattle.gimple_core.specs.Verdict.{Verdict, ◌>>=◌, ◌>>◌, pure, demand, found, at}
-use Rattle.gimple_core.specs.Env.{Env, Names, Targets, has, named, is_target, declared, structs_by_name}
+use Rattle.gimple_core.specs.Env.{Env, Names, Targets, has, named, declared, structs_by_name}
 use Rattle.gimple_core.specs.Statements as s
 use Rattle.gimple_core.specs.Declarations as d
 use Rattle.gimple_core.proofs.Passed.{first_passed, both_pass, demand_passes, at_passed, at_passes}

@@ -1,5 +1,5 @@
 -- A program with one function folded runs as the program does.
-use Rattle.std.proofs.Common.{◌≡◌, ℕ, zero, suc, ◌+◌, ◌==◌, ℤ, Bool, true, false, if◌then◌else◌, List, [], ◌∷◌, refl, sym, ◌∙◌, ap, subst, Option, Some, None, Result, Ok, Err, slice_get, slice_set, arith}
+use Rattle.std.proofs.Common.{◌≡◌, ℕ, zero, suc, ◌+◌, ◌==◌, ℤ, Bool, true, false, if◌then◌else◌, List, [], ◌∷◌, refl, sym, ◌∙◌, ap, subst, Option, Some, None, Result, Ok, slice_get, slice_set, arith}
 use Rattle.std.specs.List.{list_all, find, position_or_len}
 use Rattle.std.proofs.lemmas.List.Folds.{find_at}
 use Rattle.std.proofs.lemmas.Bool.{eqb-true, eq-eqb}
@@ -15,8 +15,8 @@ use Rattle.gimple_ir.specs.declared.statement.Signature.{Signature}
 use Rattle.gimple_core.specs.Sealed.{Sealed}
 use Rattle.std.specs.Str.{bytes_eq}
 use Rattle.gimple_core.specs.Operators.{in_scalar}
-use Rattle.gimple_core.specs.State.{State, Scope, scope_of, value_in}
-use Rattle.gimple_core.specs.Run.{Callee, Named, Through, Calling, ToLabel, exit_of, function_named, has_signature, called_by_name, called_with, called_through, called_function, main_name, labelled, Run}
+use Rattle.gimple_core.specs.State.{State, scope_of, value_in}
+use Rattle.gimple_core.specs.Run.{Callee, Named, Through, ToLabel, exit_of, function_named, has_signature, called_by_name, called_with, called_through, called_function, main_name, labelled, Run}
 use Rattle.gimple_core.specs.Trace.{Event, main_entry, InEachRun}
 use Rattle.gimple_claims.specs.Bodies.{FactsClaim}
 use Rattle.gimple_claims.specs.Kept.{new_body, new_blocks}
