@@ -1,23 +1,50 @@
 -- What the passes make of a program may stand for it.
-use Rattle.std.proofs.Common.{◌≡◌, ℕ, Bool, List, ◌≤◌, cond, ◌&&◌, refl, sym, ap, subst, arith, le_trans}
+use Rattle.std.proofs.Common.{◌≡◌, ℕ, ◌*◌, ◌<◌, ◌^◌, Bool, true, false, List, ◌≤◌, refl, sym, ap, ◌∙◌, subst, arith, le_trans}
 use Rattle.gimple_ir.specs.declared.options.Passes.{Passes}
 use Rattle.gimple_ir.specs.declared.options.Params.{Params}
 use Rattle.gimple_ir.specs.declared.program.Function.{Function}
-use Rattle.gimple_core.specs.Accepted.{IsAccepted}
-use Rattle.gimple_core.specs.Sealed.{Sealed}
+use Rattle.gimple_ir.specs.declared.program.Program.{Program}
+use Rattle.gimple_ir.specs.Counts.{IsCountable, CountsWithin}
 use Rattle.gimple_ir.specs.Size.{size_of_program}
-use Rattle.gimple_core.specs.Reach.{IsWithoutUnreached}
-use Rattle.gimple_core.proofs.Dropping.{reached_runs}
-use Rattle.gimple_core.proofs.KeptAccepted.{reached_accepted}
-use Rattle.gimple_text.specs.Parse.{Spells}
-use Rattle.gimple_ir.specs.Spellable.{IsSpellable}
-use Rattle.gimple_ir.proofs.SpellableLaws.{filtered_spellable}
-use Rattle.gimple_text.specs.Canon.{canon}
-use Rattle.gimple_text.proofs.Laws.{canon_spells}
+use Rattle.gimple_core.specs.Accepted.{IsAccepted}
+use Rattle.gimple_core.specs.Growth.{bound, grown, clone_growth, split_growth}
+use Rattle.gimple_core.specs.Replacing.{Replaces}
+use Rattle.gimple_core.specs.Sealed.{Sealed}
+use Rattle.gimple_core.proofs.ReplacingLaws.{reached_replaces, replaces_in_turn, kept_size}
+use Rattle.ipa_driver.specs.declared.legs.Leg.{Leg}
+use Rattle.ipa_driver.specs.declared.passes.Asked.{Asked}
+use Rattle.ipa_driver.specs.declared.passes.Legs.{Legs}
 use Rattle.ipa_driver.specs.declared.passes.Product.{Product}
-use Rattle.ipa_driver.specs.Graph.{IsGraphText}
-use Rattle.ipa_driver.specs.Summary.{measure_of, no_counts, summary_text}
-use Rattle.ipa_driver.specs.Pipeline.{IsMade, bare_product, bound, grown}
+use Rattle.ipa_driver.specs.Legs.{IsLeg, IsIdle, NotBuilt}
+use Rattle.ipa_driver.specs.Pipeline.{AreLegs, DropsUnreached, IsPipeline, IsMade}
+
+-- ---- one leg
+
+pub not_built : (on : Bool) (name : List ℕ) (p : Sealed) (asked : Bool) (leg : Leg) → IsIdle name p asked leg → IsLeg on name (NotBuilt name) p asked leg
+not_built true name p asked leg h = h
+not_built false name p asked leg h = h
+
+idle_program : (on : Bool) (name : List ℕ) (p : Sealed) (asked : Bool) (leg : Leg) → IsLeg on name (NotBuilt name) p asked leg → leg.program ≡ p
+idle_program true name p asked leg h = h.program
+idle_program false name p asked leg h = h.program
+
+-- ---- the legs
+
+module _ (p : Sealed) (asked : Asked) (passes : Passes) (legs : Legs) (h : AreLegs p asked passes legs) where
+  pub folded_program : h.folded.program ≡ p
+  folded_program = idle_program passes.icf _ p asked.icf h.folded h.icf
+
+  last_program : h.cleared.program ≡ p
+  last_program =
+      idle_program passes.modref _ h.split.program asked.modref h.cleared h.modref
+      ∙ idle_program passes.sra _ h.propagated.program asked.sra h.split h.sra
+      ∙ idle_program passes.cp _ h.folded.program asked.cp h.propagated h.cp
+      ∙ folded_program
+
+  pub legs_program : legs.program ≡ p
+  legs_program = ap (λ (l : Legs). l.program) h.kept ∙ last_program
+
+-- ---- the pipeline
 
 grows : (size large percent : ℕ) → size ≤ grown size large percent
 grows size large percent = omega arith
@@ -25,36 +52,49 @@ grows size large percent = omega arith
 within_bound : (size : ℕ) (passes : Passes) (params : Params) → size ≤ bound size passes params
 within_bound size passes params =
     let large = params.ipa_cp_large_unit_insns in
-    let clones = cond (passes.cp && passes.cp_clone) params.ipa_cp_unit_growth 0 in
-    let splits = cond passes.sra params.ipa_sra_unit_growth 0 in
+    let clones = clone_growth passes params in
+    let splits = split_growth passes params in
     le_trans (grows size large clones) (grows (grown size large clones) large splits)
 
-pub made : (p q : Sealed) (shows : Bool) (cgraph summary : List ℕ) (passes : Passes) (params : Params) → IsAccepted p.program → IsWithoutUnreached p.program q.program → q.mode ≡ p.mode → size_of_program q.program ≤ size_of_program p.program → IsGraphText shows q.program cgraph
-    → summary ≡ summary_text (measure_of p.program) (measure_of q.program) no_counts → IsMade p shows passes params (bare_product q cgraph summary)
-made p q shows cgraph summary passes params accepted reached same shrinks dump counted = record {
-  pipeline = record {
-    entering = q;
-    reached = reached;
-    mode = same;
-    program = refl;
-    cgraph = dump;
-    icf = refl;
-    cp = refl;
-    sra = refl;
-    modref = refl;
-    summary = counted;
-  };
-  sound = record {
-    accepted = reached_accepted p.program q.program accepted reached;
-    mode = same;
-    runs = λ input within n. reached_runs p q reached same input n;
-    entering_size = shrinks;
-    size = within_bound (size_of_program q.program) passes params;
-  };
-}
+dropped_size : (p q : Sealed) → DropsUnreached p q → size_of_program q.program ≤ size_of_program p.program
+dropped_size p q h =
+    let keeps = h.functions.keeps in
+    subst (λ (r : Program). size_of_program r ≤ size_of_program p.program) (sym h.functions.program) (kept_size (λ (f : Function). keeps f.name) p.program.functions)
 
--- The output's text is its own, where the source has one.
-pub made_spelled : (p : Sealed) (shows : Bool) (passes : Passes) (params : Params) (product : Product) → IsSpellable p.program → IsMade p shows passes params product → Spells (canon product.program.program) product.program.program
-made_spelled p shows passes params product h m =
-    let e = subst IsSpellable (sym m.pipeline.reached.program) (filtered_spellable p.program (λ (f : Function). m.pipeline.reached.keeps f.name) h) in
-    canon_spells product.program.program (subst IsSpellable (sym (ap (λ (s : Sealed). s.program) m.pipeline.program)) e)
+drop_replaces : (p q : Sealed) → IsAccepted p.program → DropsUnreached p q → Replaces 1 p q
+drop_replaces p q a h = reached_replaces p q a h.functions h.mode
+
+counted_once : (n : ℕ) (q : Program) → CountsWithin (1 * n) q → CountsWithin n q
+counted_once n q h = let same : 1 * n ≡ n = omega arith in subst (λ m. CountsWithin m q) same h
+
+-- what is dropped can be counted
+pub dropped_countable : (p q : Sealed) → IsAccepted p.program → DropsUnreached p q → IsCountable p.program → IsCountable q.program
+dropped_countable p q a h n = counted_once (2 ^ 32) q.program ((drop_replaces p q a h).counts (2 ^ 32) n)
+
+module _ (p : Sealed) (asked : Asked) (passes : Passes) (params : Params) (product : Product) (accepted : IsAccepted p.program) (h : IsPipeline p asked passes params product) where
+  first : Replaces 1 p h.reached
+  first = drop_replaces p h.reached accepted h.drops
+
+  again : DropsUnreached h.reached product.program
+  again = subst (λ (s : Sealed). DropsUnreached s product.program) (legs_program h.reached asked passes h.legs h.passed) h.drops_again
+
+  pub replaces : Replaces 1 p product.program
+  replaces = replaces_in_turn 1 1 p h.reached product.program first (drop_replaces h.reached product.program first.accepted again)
+
+  entering : h.passed.folded.program ≡ h.reached
+  entering = folded_program h.reached asked passes h.legs h.passed
+
+  pub made : IsMade p asked passes params product
+  made =
+      let before = dropped_size p h.reached h.drops in
+      let after = dropped_size h.reached product.program again in
+      record {
+        pipeline = h;
+        sound = record {
+          accepted = replaces.accepted;
+          mode = replaces.mode;
+          runs = replaces.runs;
+          entering_size = subst (λ (s : Sealed). size_of_program s.program ≤ size_of_program p.program) (sym entering) before;
+          size = le_trans (subst (λ (s : Sealed). size_of_program product.program.program ≤ size_of_program s.program) (sym entering) after) (within_bound (size_of_program h.passed.folded.program.program) passes params);
+        };
+      }

@@ -1,6 +1,7 @@
 pub mod Verdict
 pub mod Summary
 pub mod Graph
+pub mod Legs
 pub mod Pipeline
 pub mod Stores
 pub mod Messages

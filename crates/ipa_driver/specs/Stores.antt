@@ -8,29 +8,50 @@ use Rattle.words.specs.Words.{bytes_of}
 use Rattle.gimple_ir.specs.declared.program.Program.{Program}
 use Rattle.gimple_text.specs.Parse.{Spells}
 use Rattle.gimple_text.specs.Canon.{canon}
+use Rattle.ipa_driver.specs.declared.passes.Asked.{Asked}
 use Rattle.ipa_driver.specs.declared.passes.Product.{Product}
+use Rattle.ipa_driver.specs.declared.outputs.Row.{Row}
 use Rattle.ipa_driver.specs.declared.outputs.Output.{Output}
 use Rattle.ipa_driver.specs.Pipeline.{IsMade}
+
+-- which texts the words ask for
+abbrev pub asked_of : Options → Asked
+asked_of o = record {
+  cgraph = is_some o.cgraph;
+  icf = is_some o.icf;
+  cp = is_some o.cp;
+  sra = is_some o.sra;
+  modref = is_some o.modref;
+  summary = is_some o.summary;
+}
+
+abbrev pub row : Option Name → List ℕ → Row
+row name text = record { name = name; text = text }
+
+-- all texts of a run with the names that they were given, in the order of the stores: the dumps, the summary and the output's text
+unfoldable pub output_rows : Options → Product → List ℕ → List Row
+output_rows o product text =
+    row o.cgraph product.cgraph
+    ∷ row o.icf product.icf
+    ∷ row o.cp product.cp
+    ∷ row o.sra product.sra
+    ∷ row o.modref product.modref
+    ∷ row o.summary product.summary
+    ∷ row (Some o.output) text
+    ∷ []
 
 abbrev pub asked_output : Option Name → List ℕ → List Output
 asked_output None text = []
 asked_output (Some name) text = record { name = name; text = text } ∷ []
 
--- the dumps of the call graph, of ICF and of IPA-CP, where they were asked for
-unfoldable pub first_outputs : Options → List ℕ → List ℕ → List ℕ → List Output
-first_outputs o cgraph icf cp = asked_output o.cgraph cgraph ++ (asked_output o.icf icf ++ asked_output o.cp cp)
-
--- the dumps of IPA-SRA and modref, and the summary, where they were asked for
-unfoldable pub last_outputs : Options → List ℕ → List ℕ → List ℕ → List Output
-last_outputs o sra modref summary = asked_output o.sra sra ++ (asked_output o.modref modref ++ asked_output o.summary summary)
-
-abbrev pub all_outputs : Options → Product → List ℕ → List Output
-all_outputs o product text =
-    first_outputs o product.cgraph product.icf product.cp ++ (last_outputs o product.sra product.modref product.summary ++ asked_output (Some o.output) text)
+-- those that were given a name
+unfoldable pub asked_outputs : List Row → List Output
+asked_outputs [] = []
+asked_outputs (r ∷ rs) = asked_output r.name r.text ++ asked_outputs rs
 
 -- what a run stores of what the passes made, in this order
 abbrev pub output_list : Options → Product → List Output
-output_list o product = all_outputs o product (canon product.program.program)
+output_list o product = asked_outputs (output_rows o product (canon product.program.program))
 
 -- each as its name's bytes and its text
 abbrev pub pairs : List (List ℕ) → List Output → List (List ℕ × List ℕ)
@@ -45,7 +66,7 @@ total pairs = sum_by cost_of pairs
 -- source.
 pub record AreOutputs (o : Options) (p : Program) (outputs : List Output) : Type 0 where
   pub product : Product
-  pub made : IsMade (record { program = p; mode = o.mode }) (is_some o.cgraph) o.passes o.params product
+  pub made : IsMade (record { program = p; mode = o.mode }) (asked_of o) o.passes o.params product
   pub spelled : Spells (canon product.program.program) product.program.program
   pub texts : outputs ≡ output_list o product
 

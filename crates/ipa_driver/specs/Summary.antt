@@ -13,6 +13,18 @@ measure_of p = record { functions = length p.functions; size = size_of_program p
 abbrev pub no_counts : Counts
 no_counts = record { clones = 0; merged = 0; formals = 0; results = 0; splits = 0; reused = 0; removed = 0 }
 
+-- what all passes did; each counts its own
+abbrev pub all_counts : Counts → Counts → Counts → Counts → Counts
+all_counts icf cp sra modref = record {
+  clones = cp.clones;
+  merged = icf.merged;
+  formals = sra.formals;
+  results = sra.results;
+  splits = sra.splits;
+  reused = modref.reused;
+  removed = modref.removed;
+}
+
 unfoldable pub count_text : List ℕ → ℕ → List ℕ
 count_text what n = what ++ decimal n
 

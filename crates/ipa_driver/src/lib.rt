@@ -4,6 +4,7 @@
 mod fault_texts;
 mod finish;
 mod graph;
+mod legs;
 mod load;
 mod message;
 mod outputs;
@@ -19,9 +20,11 @@ mod verdict;
 pub use finish::{Fault, Finish};
 pub use gimple_core::Mode;
 pub use gimple_text::{Spot, TextFault};
-pub use passes::{Product, pipeline};
+pub use legs::Leg;
+pub use passes::{Asked, Product, pipeline};
 pub use run_top::run_program;
 pub use shelf::{Fail, Fetched, MemoryShelf, Shelf, Stored};
+pub use summary::Counts;
 pub use top::optimise_alone;
 pub use verdict::one_verdict;
 pub use words::{

@@ -3,9 +3,9 @@
 ghost use Rattle.std.specs.Prelude.{◌≡◌, ◌++◌, IfOk, OnOk, MatchResult};
 ghost use Rattle.gimple_ir.specs.Spellable.{IsSpellable};
 ghost use Rattle.gimple_ir.specs.Counts.{IsCountable};
-ghost use Rattle.ipa_driver.specs.Stores.{asked_output, first_outputs, last_outputs, all_outputs, AreOutputs, AreStored, IsStoreFault, StoresOnly, StaysSure};
+ghost use Rattle.ipa_driver.specs.Stores.{asked_of, asked_output, asked_outputs, output_rows, AreOutputs, AreStored, IsStoreFault, StoresOnly, StaysSure};
 
-use crate::passes::{Product, pipeline};
+use crate::passes::{Asked, Product, pipeline};
 use gimple_core::{Checked, OutOfMemory, Text};
 use gimple_text::print;
 use shelf::{Shelf, Stored};
@@ -19,17 +19,28 @@ pub struct Output {
     pub text: Text,
 }
 
-/// Adds a text that was asked for.
-fn ask(outputs: &mut Vec<Output>, name: Option<Name>, text: Text) -> Result<(), OutOfMemory>
-    ensures { OnOk result (outputs.new.items ≡ outputs.old.items ++ asked_output name text) }
-{
-    if let Some(name) = name {
-        outputs.push(Output { name, text })?;
-    }
-    Ok(())
+/// A text, and where it goes if it was asked for.
+#[derive(Debug, Drop)]
+pub struct Row {
+    pub name: Option<Name>,
+    pub text: Text,
 }
 
-/// All texts of a run, in the order in which they are stored.
+/// Which texts the words ask for.
+fn asked_of(options: &Options) -> Asked
+    ensures { result ≡ asked_of options.now }
+{
+    Asked {
+        cgraph: options.cgraph.is_some(),
+        icf: options.icf.is_some(),
+        cp: options.cp.is_some(),
+        sra: options.sra.is_some(),
+        modref: options.modref.is_some(),
+        summary: options.summary.is_some(),
+    }
+}
+
+/// All texts of a run that were asked for, in the order in which they are stored.
 pub fn outputs_of(
     alloc: Global,
     program: Checked,
@@ -40,28 +51,23 @@ pub fn outputs_of(
     requires mode { program.mode ≡ options.now.mode }
     ensures { IfOk result (λ outputs. AreOutputs options.now program.program outputs.items) }
 {
-    let shows_graph = options.cgraph.is_some();
-    let product = pipeline(
-        alloc,
-        program,
-        shows_graph,
-        &options.passes,
-        &options.params,
-    )?;
+    let asked = asked_of(options);
+    let product = pipeline(alloc, program, &asked, &options.passes, &options.params)?;
     let text = print(alloc, product.program.program())?;
-    let mut outputs = Vec::new(alloc);
-    ask_all(&mut outputs, options, product, text)?;
+    let rows = rows_of(alloc, options, product, text)?;
+    let outputs = asked_outputs(alloc, rows)?;
     Ok(outputs)
 }
 
-/// Adds the texts that were asked for, the output's text last.
-fn ask_all(
-    outputs: &mut Vec<Output>,
+/// All texts with the names that the words give them, the output's text last.
+#[tactic(auto, unfolding(crate::specs::Stores::output_rows))]
+fn rows_of(
+    alloc: Global,
     options: &Options,
     product: Product,
     text: Text,
-) -> Result<(), OutOfMemory>
-    ensures { OnOk result (outputs.new.items ≡ outputs.old.items ++ all_outputs options.now product text) }
+) -> Result<Vec<Row>, OutOfMemory>
+    ensures { IfOk result (λ rows. rows.items ≡ output_rows options.now product text) }
 {
     let Product {
         cgraph,
@@ -72,39 +78,62 @@ fn ask_all(
         summary,
         ..
     } = product;
-    ask_first(outputs, options, cgraph, icf, cp)?;
-    ask_last(outputs, options, sra, modref, summary)?;
-    ask(outputs, Some(options.output), text)
+    Ok(Vec::from_array(
+        alloc,
+        [
+            Row {
+                name: options.cgraph,
+                text: cgraph,
+            },
+            Row {
+                name: options.icf,
+                text: icf,
+            },
+            Row {
+                name: options.cp,
+                text: cp,
+            },
+            Row {
+                name: options.sra,
+                text: sra,
+            },
+            Row {
+                name: options.modref,
+                text: modref,
+            },
+            Row {
+                name: options.summary,
+                text: summary,
+            },
+            Row {
+                name: Some(options.output),
+                text,
+            },
+        ],
+    )?)
 }
 
-#[tactic(auto, unfolding(crate::specs::Stores::first_outputs))]
-fn ask_first(
-    outputs: &mut Vec<Output>,
-    options: &Options,
-    cgraph: Text,
-    icf: Text,
-    cp: Text,
-) -> Result<(), OutOfMemory>
-    ensures { OnOk result (outputs.new.items ≡ outputs.old.items ++ first_outputs options.now cgraph icf cp) }
+/// The texts that were given a name.
+#[tactic(auto, unfolding(crate::specs::Stores::asked_outputs))]
+fn asked_outputs(alloc: Global, rows: Vec<Row>) -> Result<Vec<Output>, OutOfMemory>
+    ensures { IfOk result (λ outputs. outputs.items ≡ asked_outputs rows.items) }
 {
-    ask(outputs, options.cgraph, cgraph)?;
-    ask(outputs, options.icf, icf)?;
-    ask(outputs, options.cp, cp)
+    let mut outputs = Vec::new(alloc);
+    for row in rows {
+        ask(&mut outputs, row)?;
+    }
+    Ok(outputs)
 }
 
-#[tactic(auto, unfolding(crate::specs::Stores::last_outputs))]
-fn ask_last(
-    outputs: &mut Vec<Output>,
-    options: &Options,
-    sra: Text,
-    modref: Text,
-    summary: Text,
-) -> Result<(), OutOfMemory>
-    ensures { OnOk result (outputs.new.items ≡ outputs.old.items ++ last_outputs options.now sra modref summary) }
+/// Adds a text that was asked for.
+fn ask(outputs: &mut Vec<Output>, row: Row) -> Result<(), OutOfMemory>
+    ensures { OnOk result (outputs.new.items ≡ outputs.old.items ++ asked_output row.name row.text) }
 {
-    ask(outputs, options.sra, sra)?;
-    ask(outputs, options.modref, modref)?;
-    ask(outputs, options.summary, summary)
+    let Row { name, text } = row;
+    if let Some(name) = name {
+        outputs.push(Output { name, text })?;
+    }
+    Ok(())
 }
 
 /// Stores the texts in order, up to the first that fails; an `Err` has its name.

@@ -1,17 +1,30 @@
-//! All passes over a program. Functions that `main` does not reach are dropped.
+//! All passes over a program, one after another. Functions that `main` does not reach are dropped before and behind them.
 
 ghost use Rattle.std.specs.Prelude.{◌≡◌, IfOk};
 ghost use Rattle.gimple_ir.specs.Counts.{IsCountable};
-ghost use Rattle.ipa_driver.specs.Pipeline.{IsMade, bare_product};
+ghost use Rattle.gimple_ir.specs.Spellable.{IsSpellable};
+ghost use Rattle.ipa_driver.specs.Pipeline.{AreLegs, IsMade};
+ghost use Rattle.ipa_driver.specs.Summary.{all_counts};
 
 use crate::graph::graph_text;
-use crate::summary::{measure_of, no_counts, summary_of};
+use crate::legs::{Leg, idle};
+use crate::summary::{Counts, all_counts, asked_summary, measure_of};
 use call_graph::drop_unreached;
 use gimple_core::{Checked, OutOfMemory, Params, Passes, Text};
-use ipa_dumps::header;
 use std::alloc::Global;
 
-/// What the passes give: the program, the dump of each pass, and the summary.
+/// Which texts are asked for beside the program: five dumps and the summary.
+#[derive(Clone, Copy, Debug, PartialEq, Eq)]
+pub struct Asked {
+    pub cgraph: bool,
+    pub icf: bool,
+    pub cp: bool,
+    pub sra: bool,
+    pub modref: bool,
+    pub summary: bool,
+}
+
+/// What the passes give: the program, the dump of each pass, and the summary. A text that is not asked for is empty.
 #[derive(Debug, Drop)]
 pub struct Product {
     pub program: Checked,
@@ -23,48 +36,67 @@ pub struct Product {
     pub summary: Text,
 }
 
-/// Runs the passes that are on, in their order. The dump of the call graph is made where it is asked for alone, since it
-/// can take a third of the time of all the rest. Err is want of memory.
-#[tactic(auto, using(crate::proofs::GraphLaws::few_functions))]
+/// What the passes between the two drops give: the last program, the dump of each, and what they counted.
+#[derive(Debug, Drop)]
+pub struct Legs {
+    pub program: Checked,
+    pub icf: Text,
+    pub cp: Text,
+    pub sra: Text,
+    pub modref: Text,
+    pub counts: Counts,
+}
+
+/// Runs the passes that are on, in their order, and makes the texts that are asked for. Err is want of memory.
 pub fn pipeline(
     alloc: Global,
     program: Checked,
-    shows_graph: bool,
+    asked: &Asked,
     passes: &Passes,
     params: &Params,
 ) -> Result<Product, OutOfMemory>
     requires { IsCountable program.program }
-    ensures { IfOk result (λ product. IsMade program shows_graph passes.now params.now product) }
+    ensures made { IfOk result (λ product. IsMade program asked.now passes.now params.now product) }
+    ensures spellable { IfOk result (λ product. IsSpellable program.program → IsSpellable product.program.program) }
 {
     let source = measure_of(program.program());
-    let program = drop_unreached(alloc, program)?;
-    let cgraph = graph_text(alloc, &program, shows_graph)?;
+    let reached = drop_unreached(alloc, program)?;
+    let cgraph = graph_text(alloc, &reached, asked.cgraph)?;
+    let legs = legs_of(alloc, reached, asked, passes)?;
+    let program = drop_unreached(alloc, legs.program)?;
     let output = measure_of(program.program());
-    let summary = summary_of(alloc, &source, &output, &no_counts())?;
-    let product = bare_product(alloc, program, cgraph, summary)?;
-    Ok(product)
-}
-
-/// The product where the passes after the call graph are not built.
-fn bare_product(
-    alloc: Global,
-    program: Checked,
-    cgraph: Text,
-    summary: Text,
-) -> Result<Product, OutOfMemory>
-    ensures { IfOk result (λ product. product ≡ bare_product program cgraph summary) }
-{
-    let icf = header(alloc, "icf")?;
-    let cp = header(alloc, "cp")?;
-    let sra = header(alloc, "sra")?;
-    let modref = header(alloc, "modref")?;
+    let summary = asked_summary(alloc, asked.summary, &source, &output, &legs.counts)?;
     Ok(Product {
         program,
         cgraph,
-        icf,
-        cp,
-        sra,
-        modref,
+        icf: legs.icf,
+        cp: legs.cp,
+        sra: legs.sra,
+        modref: legs.modref,
         summary,
+    })
+}
+
+/// The passes between the two drops, each over the program of the one before.
+fn legs_of(
+    alloc: Global,
+    program: Checked,
+    asked: &Asked,
+    passes: &Passes,
+) -> Result<Legs, OutOfMemory>
+    ensures { IfOk result (λ legs. AreLegs program asked.now passes.now legs) }
+{
+    let icf = idle(alloc, "icf", program, asked.icf)?;
+    let cp = idle(alloc, "cp", icf.program, asked.cp)?;
+    let sra = idle(alloc, "sra", cp.program, asked.sra)?;
+    let modref = idle(alloc, "modref", sra.program, asked.modref)?;
+    let counts = all_counts(&icf.counts, &cp.counts, &sra.counts, &modref.counts);
+    Ok(Legs {
+        program: modref.program,
+        icf: icf.text,
+        cp: cp.text,
+        sra: sra.text,
+        modref: modref.text,
+        counts,
     })
 }

@@ -2,7 +2,8 @@
 
 ghost use Rattle.std.specs.Prelude.{◌≡◌, ◌<◌, ◌^◌, ◌++◌, IfOk, OnOk};
 ghost use Rattle.gimple_ir.specs.Size.{size_of_program};
-ghost use Rattle.ipa_driver.specs.Summary.{measure_of, no_counts, measure_line, count_text, first_counts, middle_counts, last_counts, counts_line, summary_text};
+ghost use Rattle.ipa_driver.specs.Legs.{asked_text};
+ghost use Rattle.ipa_driver.specs.Summary.{measure_of, all_counts, no_counts, measure_line, count_text, first_counts, middle_counts, last_counts, counts_line, summary_text};
 
 use crate::fault_texts::push_number;
 use gimple_core::{OutOfMemory, Program, Text, size_of_program};
@@ -39,6 +40,21 @@ pub fn no_counts() -> Counts
         splits: 0,
         reused: 0,
         removed: 0,
+    }
+}
+
+/// What all passes did; each counts its own.
+pub fn all_counts(icf: &Counts, cp: &Counts, sra: &Counts, modref: &Counts) -> Counts
+    ensures { result ≡ all_counts icf.now cp.now sra.now modref.now }
+{
+    Counts {
+        clones: cp.clones,
+        merged: icf.merged,
+        formals: sra.formals,
+        results: sra.results,
+        splits: sra.splits,
+        reused: modref.reused,
+        removed: modref.removed,
     }
 }
 
@@ -119,4 +135,21 @@ pub fn summary_of(
     push_measure(&mut text, "output: functions ", output)?;
     push_counts(&mut text, counts)?;
     Ok(text)
+}
+
+/// The summary where it is asked for, else no text.
+pub fn asked_summary(
+    alloc: Global,
+    asked: bool,
+    source: &Measure,
+    output: &Measure,
+    counts: &Counts,
+) -> Result<Text, OutOfMemory>
+    ensures { IfOk result (λ text. text ≡ asked_text asked (summary_text source.now output.now counts.now)) }
+{
+    if asked {
+        summary_of(alloc, source, output, counts)
+    } else {
+        Ok(Text::new(alloc))
+    }
 }
