@@ -1,5 +1,5 @@
 -- Laws of the answers of a run.
-use Rattle.std.proofs.Common.{◌≡◌, ◌⊎◌, inl, inr, ℕ, ◌+◌, ◌-◌, ◌≤◌, List, length, take, Option, Some, None, Result, Ok, Err, MatchResult, refl, sym, ◌∙◌, subst, arith}
+use Rattle.std.proofs.Common.{◌≡◌, ◌⊎◌, inl, inr, ℕ, ◌+◌, ◌-◌, ◌≤◌, List, [], length, take, Option, Some, None, Result, Ok, Err, MatchResult, refl, sym, ◌∙◌, subst, arith}
 use Rattle.std.specs.Option.{IsSomeAnd, IfSome}
 use Rattle.shelf.specs.Outside.{Meaning, Contents, at_name, Rose, RoseBy, OnSource, LacksSource, Appends, IsToldCut}
 use Rattle.words.specs.declared.options.SourceName.{SourceName}
@@ -13,11 +13,13 @@ use Rattle.gimple_text.specs.Parse.{TextFaultOf}
 use Rattle.gimple_text.proofs.Laws.{spelled_spellable}
 use Rattle.gimple_text.proofs.SizeLaws.{countable}
 use Rattle.ipa_driver.specs.declared.tool.Tool.{Tool}
+use Rattle.words.specs.declared.options.UsageFault.{UsageFault}
 use Rattle.ipa_driver.specs.declared.finish.Fault.{Fault}
+use Rattle.ipa_driver.specs.declared.finish.Finish.{Finish}
 use Rattle.ipa_driver.specs.declared.finish.Fault.TheVariants.{Usage, Read, Long, Text, Types, Write, Memory}
 use Rattle.ipa_driver.specs.Stores.{IsCut}
 use Rattle.ipa_driver.specs.Verdict.{LIMIT, Verdict, TooLong, BadText, BadTypes, Good, IsVerdict}
-use Rattle.ipa_driver.specs.Answers.{input_of, HasVerdict, IsOfText, Refused, IsGoodSource, Answer, IsComplete, TellsOne, WithinRoom, NoneRose, MadeOf}
+use Rattle.ipa_driver.specs.Answers.{input_of, HasVerdict, IsOfText, Refused, IsGoodSource, Answer, IsComplete, IsDone, TellsOne, TopAnswers, WithinRoom, NoneRose, MadeOf, fault_status}
 use Rattle.ipa_driver.specs.Work.{LoadsText, Judges, IsLoaded, WorkKeeps, WorkSure, MessageTold}
 use Rattle.ipa_driver.proofs.VerdictLaws.{one}
 
@@ -143,12 +145,50 @@ module _ (tool : Tool) (words : List (List ℕ)) (source : SourceName) (Makes : 
     sure = surely old.sure sure;
   }
 
--- the answer after the message
-module _ (tool : Tool) (words : List (List ℕ)) (source : SourceName) (Makes : MadeOf) (fault : Fault) (result : Option Fault) (input : List ℕ) (old mid new : Meaning)
-    (faulty : result ≡ Some fault)
-    (a : Answer words source Makes old mid (Some fault)) (t : MessageTold tool input words fault mid new) where
-  pub answered : Answer words source Makes old new result
-  answered = subst (λ (f : Option Fault). Answer words source Makes old new f) (sym faulty) (answer_after words source Makes old mid new t.tells.stores t.tells.read t.tells.write t.tells.taken fault a)
+-- ---- how a top call ends, by what it read of its words
 
-  pub completed : IsComplete words source old new result
-  completed = complete words source Makes old new result answered
+misused_surely : (old new : Meaning) (message : List ℕ) → new.read_faults ≡ old.read_faults → new.write_faults ≡ old.write_faults → (s : Option ℕ)
+    → IfSome s (λ r. length message ≤ r → (new.sure ≡ Some (r - length message)) × (new.tell_faults ≡ old.tell_faults) × Appends old.told new.told message)
+    → IfSome s (λ r. length message ≤ r → Unit {0} → NoneRose old new × Appends old.told new.told message)
+misused_surely old new message read write None h = tt
+misused_surely old new message read write (Some r) h = λ short any. let (used, tell, told) = h short in (record { read = read; write = write; tell = tell }, told)
+
+module _ {X : Type 0} (tool : Tool) (words : List (List ℕ)) (read : Result X UsageFault) (source : X → SourceName) (Makes : X → MadeOf) (old mid new : Meaning) where
+  abbrev Ends : Result X UsageFault → Finish → Type 0
+  Ends r finish = TopAnswers tool words r source Makes old new finish
+
+  -- all is stored
+  pub top_done : (o : X) → read ≡ Ok o → IsDone words (source o) (Makes o) old new → Ends read (record { status = 0; fault = None })
+  top_done o lawful done = subst (λ r. Ends r (record { status = 0; fault = None })) (sym lawful) (record {
+    status = refl;
+    answer = done;
+    told = tt;
+    complete = complete words (source o) (Makes o) old new None done;
+  })
+
+  -- something failed behind the words, and is told
+  pub top_failed : (o : X) (fault : Fault) → read ≡ Ok o → WorkKeeps old mid → Answer words (source o) (Makes o) old mid (Some fault) → WorkSure words (source o) (Makes o) old mid (Err fault)
+      → MessageTold tool (bytes_of words (input_of (source o))) words fault mid new → Ends read (record { status = fault_status fault; fault = Some fault })
+  top_failed o fault lawful keeps a sure t =
+      let after = answer_after words (source o) (Makes o) old mid new t.tells.stores t.tells.read t.tells.write t.tells.taken fault a in
+      let fits : (r : ℕ) → WithinRoom words (source o) (Makes o) old.sources r → WithinRoom words (source o) (Makes o) old.sources r = λ r can. can in
+      subst (λ r. Ends r (record { status = fault_status fault; fault = Some fault })) (sym lawful) (record {
+        status = refl;
+        answer = after;
+        told = told_after tool words (source o) (Makes o) fault (bytes_of words (input_of (source o))) (WithinRoom words (source o) (Makes o) old.sources) old mid new keeps t fits sure;
+        complete = complete words (source o) (Makes o) old new (Some fault) after;
+      })
+
+  -- the words are faulty, which is told
+  pub top_misused : (f : UsageFault) → read ≡ Err f → MessageTold tool [] words (Usage f) old new → Ends read (record { status = fault_status (Usage f); fault = Some (Usage f) })
+  top_misused f faulty t = subst (λ r. Ends r (record { status = fault_status (Usage f); fault = Some (Usage f) })) (sym faulty) (record {
+    status = refl;
+    answer = record { fault = refl; stores = t.tells.stores; taken = t.tells.taken; read = t.tells.read; write = t.tells.write };
+    told = record {
+      message = t.message;
+      is_message = t.is_message;
+      told = t.tells.told;
+      sure = misused_surely old new t.message t.tells.read t.tells.write old.sure t.tells.sure;
+    };
+    complete = tt;
+  })

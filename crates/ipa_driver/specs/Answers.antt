@@ -1,22 +1,22 @@
 -- How a run answers, and the cause of each answer.
-use Rattle.std.specs.Prelude.{◌≡◌, ◌⊎◌, ℕ, ◌+◌, ◌≤◌, List, [], length, Option, None, Some, IfSome, IsSomeAnd, Result, Ok, Err, MatchResult, ⊤}
+use Rattle.std.specs.Prelude.{◌≡◌, ◌⊎◌, ℕ, ◌+◌, ◌≤◌, List, [], length, Option, None, Some, IfSome, IsSomeAnd, Result, Ok, Err, IfOk, MatchResult, ⊤}
 use Rattle.std.specs.Option.{option_map}
 use Rattle.shelf.specs.Outside.{Meaning, Contents, at_name, put_all, Rose, RoseBy, OnSource, LacksSource, Appends, IsToldCut}
 use Rattle.words.specs.declared.options.Name.{Name}
 use Rattle.words.specs.declared.options.SourceName.{SourceName}
 use Rattle.words.specs.declared.options.SourceName.TheVariants.{File}
-use Rattle.words.specs.declared.options.Options.{Options}
 use Rattle.words.specs.declared.options.UsageFault.{UsageFault}
-use Rattle.words.specs.Words.{bytes_of, options_of}
+use Rattle.words.specs.Words.{bytes_of}
 use Rattle.gimple_ir.specs.declared.program.Program.{Program}
 use Rattle.gimple_text.specs.declared.fault.TextFault.{TextFault}
 use Rattle.gimple_text.specs.declared.fault.TextFault.TheVariants.{BadByte, BadToken, EarlyEnd, Memory as TextMemory}
 use Rattle.ipa_driver.specs.declared.finish.Fault.{Fault}
+use Rattle.ipa_driver.specs.declared.finish.Finish.{Finish}
 use Rattle.ipa_driver.specs.declared.finish.Fault.TheVariants.{Usage, Read, Long, Text, Types, Write, Memory}
 use Rattle.ipa_driver.specs.declared.outputs.Output.{Output}
 use Rattle.ipa_driver.specs.declared.tool.Tool.{Tool}
 use Rattle.ipa_driver.specs.Verdict.{LIMIT, Verdict, TooLong, BadText, BadTypes, Good, IsVerdict}
-use Rattle.ipa_driver.specs.Stores.{pairs, total, AreOutputs, IsCut}
+use Rattle.ipa_driver.specs.Stores.{pairs, total, IsCut}
 use Rattle.ipa_driver.specs.Messages.{message_of, memory_line}
 
 -- statuses
@@ -110,14 +110,6 @@ pub record IsMisused (f : UsageFault) (old new : Meaning) (answer : Option Fault
 abbrev pub IsMessage : Tool → List ℕ → List (List ℕ) → Fault → List ℕ → Type 0
 IsMessage tool input words fault message = (message ≡ message_of tool input words fault) ⊎ (message ≡ memory_line tool)
 
-abbrev pub input_from : List (List ℕ) → Result Options UsageFault → List ℕ
-input_from words (Ok o) = bytes_of words (input_of o.source)
-input_from words (Err f) = []
-
--- the input's name, where the words are lawful
-abbrev pub input_bytes : List (List ℕ) → List ℕ
-input_bytes words = input_from words (options_of words)
-
 -- no count of faults has risen
 pub record NoneRose (old new : Meaning) : Type 0 where
   pub read : new.read_faults ≡ old.read_faults
@@ -133,9 +125,6 @@ CostsAtMost words Makes r bytes =
 abbrev pub WithinRoom : List (List ℕ) → SourceName → MadeOf → Option Contents → ℕ → Type 0
 WithinRoom words input Makes sources r =
     IsSomeAnd sources (λ m. IfSome (at_name m (bytes_of words (input_of input))) (CostsAtMost words Makes r))
-
-abbrev pub CanStore : List (List ℕ) → Option Contents → ℕ → Type 0
-CanStore words sources r = MatchResult (options_of words) (λ o. WithinRoom words o.source (AreOutputs o) sources r) (λ _. ⊤)
 
 -- A run that ends otherwise than with status 0 tells one message. Where it surely fits, as all stores do, it is told whole,
 -- and no count of faults rises.
@@ -159,3 +148,25 @@ IsComplete words input old new fault =
     → (Rose old.read_faults new.read_faults → ⊥)
     → (Rose old.write_faults new.write_faults → ⊥)
     → (fault ≡ None) ⊎ (fault ≡ Some Memory)
+
+-- ---- a top call
+
+-- the input's name, where the words are lawful
+abbrev pub input_name : {X : Type 0} → List (List ℕ) → (X → SourceName) → Result X UsageFault → List ℕ
+input_name words source (Ok o) = bytes_of words (input_of (source o))
+input_name words source (Err f) = []
+
+-- there is room for all outputs, if the words are lawful and the source is there and good
+abbrev pub CanStore : {X : Type 0} → List (List ℕ) → (X → SourceName) → (X → MadeOf) → Option Contents → Result X UsageFault → ℕ → Type 0
+CanStore words source Makes sources (Ok o) r = WithinRoom words (source o) (Makes o) sources r
+CanStore words source Makes sources (Err f) r = ⊤
+
+-- How a top call ends that read this of its words: options, which name a source and say what outputs a run on a program may have, or the first fault.
+pub record TopAnswers {X : Type 0} (tool : Tool) (words : List (List ℕ)) (read : Result X UsageFault) (source : X → SourceName) (Makes : X → MadeOf) (old new : Meaning) (finish : Finish) : Type 0 where
+  pub status : finish.status ≡ status_of finish.fault
+  -- the row of the table of answers
+  pub answer : MatchResult read (λ o. Answer words (source o) (Makes o) old new finish.fault) (λ f. IsMisused f old new finish.fault)
+  -- one message where the status is not 0
+  pub told : IfSome finish.fault (λ fault. TellsOne tool (input_name words source read) words (CanStore words source Makes old.sources read) fault old new)
+  -- lawful words and a good source are enough where the shelf did not fail
+  pub complete : IfOk read (λ o. IsComplete words (source o) old new finish.fault)

@@ -1,13 +1,11 @@
 -- What `gimple-run` stores, and when it can.
-use Rattle.std.specs.Prelude.{◌≡◌, ℕ, List, [], ◌∷◌, ◌++◌, codes, Option, Result, Ok, Err, MatchResult, ⊤}
+use Rattle.std.specs.Prelude.{◌≡◌, ℕ, List, [], ◌∷◌, ◌++◌, codes}
 use Rattle.std.specs.Fmt.{signed_decimal}
-use Rattle.shelf.specs.Outside.{Contents}
 use Rattle.words.specs.declared.options.Name.TheVariants.{Standard}
+use Rattle.words.specs.declared.options.SourceName.{SourceName}
 use Rattle.words.specs.declared.options.SourceName.TheVariants.{File}
-use Rattle.words.specs.declared.options.UsageFault.{UsageFault}
 use Rattle.words.specs.declared.run_options.RunOptions.{RunOptions}
-use Rattle.words.specs.Words.{bytes_of}
-use Rattle.words.specs.RunWords.{run_words_of, inputs_of}
+use Rattle.words.specs.RunWords.{inputs_of}
 use Rattle.gimple_ir.specs.declared.value.TrapKind.{TrapKind}
 use Rattle.gimple_ir.specs.declared.value.TrapKind.TheVariants.{Overflow, Divide, Shift, NullAccess, Dangling, Bounds, BadSlot, ReadOnly, Abort, BadCall}
 use Rattle.gimple_ir.specs.declared.value.Outcome.{Outcome}
@@ -15,7 +13,6 @@ use Rattle.gimple_ir.specs.declared.value.Outcome.TheVariants.{Going, Ended, Tra
 use Rattle.gimple_ir.specs.declared.program.Program.{Program}
 use Rattle.gimple_core.specs.Run.{Run}
 use Rattle.ipa_driver.specs.declared.outputs.Output.{Output}
-use Rattle.ipa_driver.specs.Answers.{WithinRoom}
 
 -- a trap's name
 abbrev pub kind_text : TrapKind → List ℕ
@@ -40,14 +37,6 @@ outcome_text (Trapped output kind) = output ++ codes "trapped " ++ kind_text kin
 abbrev pub IsRunOutput : List (List ℕ) → RunOptions → Program → List Output → Type 0
 IsRunOutput words o p outputs = outputs ≡ record { name = Standard; text = outcome_text (Run (record { program = p; mode = o.mode }) (inputs_of words o.first) o.turns) } ∷ []
 
--- the input's name, where the words are lawful
-abbrev pub run_input_from : List (List ℕ) → Result RunOptions UsageFault → List ℕ
-run_input_from words (Ok o) = bytes_of words o.source
-run_input_from words (Err f) = []
-
-abbrev pub run_input_bytes : List (List ℕ) → List ℕ
-run_input_bytes words = run_input_from words (run_words_of words)
-
--- there is room for the output, if the words are lawful and the source is there and good
-abbrev pub CanStoreRun : List (List ℕ) → Option Contents → ℕ → Type 0
-CanStoreRun words sources r = MatchResult (run_words_of words) (λ o. WithinRoom words (File o.source) (IsRunOutput words o) sources r) (λ _. ⊤)
+-- the source of a run
+abbrev pub run_source : RunOptions → SourceName
+run_source o = File o.source

@@ -1,11 +1,11 @@
 //! The top call of `gimple-run`.
 
-ghost use Rattle.std.specs.Prelude.{◌≡◌, MatchResult, IfOk, IfSome, Some};
+ghost use Rattle.std.specs.Prelude.{MatchResult, Some};
 ghost use Rattle.words.specs.declared.options.SourceName.TheVariants.{File};
 ghost use Rattle.words.specs.RunWords.{run_words_of};
 ghost use Rattle.ipa_driver.specs.declared.tool.Tool.TheVariants.{Runner};
-ghost use Rattle.ipa_driver.specs.Answers.{Answer, IsDone, IsMisused, TellsOne, IsComplete, status_of};
-ghost use Rattle.ipa_driver.specs.RunAnswers.{IsRunOutput, CanStoreRun, run_input_bytes};
+ghost use Rattle.ipa_driver.specs.Answers.{Answer, IsDone, TopAnswers};
+ghost use Rattle.ipa_driver.specs.RunAnswers.{IsRunOutput, run_source};
 ghost use Rattle.ipa_driver.specs.Work.{WorkKeeps, WorkSure};
 
 use crate::finish::{Fault, Finish};
@@ -22,14 +22,7 @@ use words::{RunOptions, SourceName, name_bytes, read_run_words};
 /// Reads the words, fetches the program, runs it in the mode and on the input numbers of the words, and stores on `-`
 /// what it printed and what it came to; where anything fails, tells one message. It never waits, and always returns.
 pub fn run_program<S: Shelf>(alloc: Global, words: &[Text], shelf: &mut S) -> Finish
-    ensures status { result.status ≡ status_of result.fault }
-    ensures answer { MatchResult (run_words_of words.now)
-        (λ options. Answer words.now (File options.source) (IsRunOutput words.now options) (S.meaning shelf.old) (S.meaning shelf.new) result.fault)
-        (λ fault. IsMisused fault (S.meaning shelf.old) (S.meaning shelf.new) result.fault) }
-    ensures told { IfSome result.fault (λ fault.
-        TellsOne Runner (run_input_bytes words.now) words.now (CanStoreRun words.now (S.meaning shelf.old).sources) fault (S.meaning shelf.old) (S.meaning shelf.new)) }
-    ensures complete { IfOk (run_words_of words.now) (λ options.
-        IsComplete words.now (File options.source) (S.meaning shelf.old) (S.meaning shelf.new) result.fault) }
+    ensures { TopAnswers Runner words.now (run_words_of words.now) run_source (IsRunOutput words.now) (S.meaning shelf.old) (S.meaning shelf.new) result }
 {
     match read_run_words(words) {
         Ok(options) => match work(alloc, words, &options, shelf) {

@@ -1,10 +1,10 @@
 //! The top call.
 
-ghost use Rattle.std.specs.Prelude.{◌≡◌, MatchResult, IfOk, IfSome, Some};
+ghost use Rattle.std.specs.Prelude.{MatchResult, Some};
 ghost use Rattle.words.specs.Words.{options_of};
 ghost use Rattle.ipa_driver.specs.declared.tool.Tool.TheVariants.{Optimiser};
 ghost use Rattle.ipa_driver.specs.Stores.{AreOutputs};
-ghost use Rattle.ipa_driver.specs.Answers.{Answer, IsDone, IsMisused, TellsOne, IsComplete, CanStore, input_bytes, status_of};
+ghost use Rattle.ipa_driver.specs.Answers.{Answer, IsDone, TopAnswers};
 ghost use Rattle.ipa_driver.specs.Work.{WorkKeeps, WorkSure};
 
 use crate::finish::{Fault, Finish};
@@ -20,14 +20,7 @@ use words::{Options, read_words};
 /// Reads the words, fetches the source, runs the passes and stores what was asked for; where anything fails, tells
 /// one message. It never waits, and always returns.
 pub fn optimise_alone<S: Shelf>(alloc: Global, words: &[Text], shelf: &mut S) -> Finish
-    ensures status { result.status ≡ status_of result.fault }
-    ensures answer { MatchResult (options_of words.now)
-        (λ options. Answer words.now options.source (AreOutputs options) (S.meaning shelf.old) (S.meaning shelf.new) result.fault)
-        (λ fault. IsMisused fault (S.meaning shelf.old) (S.meaning shelf.new) result.fault) }
-    ensures told { IfSome result.fault (λ fault.
-        TellsOne Optimiser (input_bytes words.now) words.now (CanStore words.now (S.meaning shelf.old).sources) fault (S.meaning shelf.old) (S.meaning shelf.new)) }
-    ensures complete { IfOk (options_of words.now) (λ options.
-        IsComplete words.now options.source (S.meaning shelf.old) (S.meaning shelf.new) result.fault) }
+    ensures { TopAnswers Optimiser words.now (options_of words.now) (λ options. options.source) AreOutputs (S.meaning shelf.old) (S.meaning shelf.new) result }
 {
     match read_words(words) {
         Ok(options) => match work(alloc, words, &options, shelf) {
