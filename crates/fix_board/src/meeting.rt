@@ -42,6 +42,40 @@ impl Meeting {
     fn failures(&self) -> usize {
         self.failures.load(SeqCst)
     }
+
+    /// How many calls there were.
+    fn calls(&self) -> usize {
+        self.begun.load(SeqCst)
+    }
+}
+
+/// A gate that notes who passes: for a worker and a turn below 8 a count of its own, of 4 bits.
+#[derive(Drop)]
+struct NotingGate {
+    notes: AtomicUsize,
+}
+
+/// What a gate has noted where each of two workers passed once, at its first turn.
+const ONCE_EACH: usize = 0x1_0000_0001;
+
+impl NotingGate {
+    fn new() -> NotingGate {
+        NotingGate {
+            notes: AtomicUsize::new(0),
+        }
+    }
+
+    fn notes(&self) -> usize {
+        self.notes.load(SeqCst)
+    }
+}
+
+impl Gate for NotingGate {
+    fn pass(&self, worker: u32, turn: u32) {
+        if worker < 2 && turn < 8 {
+            self.notes.fetch_add(1 << (32 * worker + 4 * turn), SeqCst);
+        }
+    }
 }
 
 /// Node 0, which starts true, with an edge to each of two others.
@@ -105,10 +139,13 @@ fn two_workers_share_the_flows(rt: HostRuntime) -> Result<(), Fail> {
     let flow = Fork {
         meeting: Meeting::new(),
     };
-    let gate = OpenGate;
+    let gate = NotingGate::new();
     let found = BoardSolver::new(&rt, 2, &gate).solve(rt.alloc(), &flow)?;
     assert_eq!(rt; found.into_vec().as_slice(), [true, true, true].as_slice());
     assert_eq!(rt; flow.meeting.failures(), 0);
+    // Each turn was posted: no edge was followed again by the caller.
+    assert_eq!(rt; flow.meeting.calls(), 2);
+    assert_eq!(rt; gate.notes(), ONCE_EACH);
     Ok(())
 }
 
@@ -117,9 +154,12 @@ fn two_workers_share_the_pieces(rt: HostRuntime) -> Result<(), Fail> {
     let work = Two {
         meeting: Meeting::new(),
     };
-    let found = map_gated(&rt, rt.alloc(), 2, 2, &OpenGate, &work)?;
+    let gate = NotingGate::new();
+    let found = map_gated(&rt, rt.alloc(), 2, 2, &gate, &work)?;
     assert_eq!(rt; found.into_vec().as_slice(), [0, 1].as_slice());
     assert_eq!(rt; work.meeting.failures(), 0);
+    assert_eq!(rt; work.meeting.calls(), 2);
+    assert_eq!(rt; gate.notes(), ONCE_EACH);
     Ok(())
 }
 

@@ -1,5 +1,5 @@
 -- What the passes make of a program may stand for it.
-use Rattle.std.proofs.Common.{◌≡◌, ℕ, ◌*◌, ◌<◌, ◌^◌, Bool, true, false, List, ◌≤◌, refl, sym, ap, ◌∙◌, subst, arith, le_trans}
+use Rattle.std.proofs.Common.{◌≡◌, ℕ, ◌*◌, ◌^◌, Bool, true, false, List, ◌≤◌, sym, ap, ◌∙◌, subst, arith, le_trans}
 use Rattle.gimple_ir.specs.declared.options.Passes.{Passes}
 use Rattle.gimple_ir.specs.declared.options.Params.{Params}
 use Rattle.gimple_ir.specs.declared.program.Function.{Function}
@@ -44,6 +44,10 @@ module _ (p : Sealed) (asked : Asked) (passes : Passes) (legs : Legs) (h : AreLe
   pub legs_program : legs.program ≡ p
   legs_program = ap (λ (l : Legs). l.program) h.kept ∙ last_program
 
+  -- the legs of a program that can be counted
+  pub legs_countable : IsCountable p.program → IsCountable legs.program.program
+  legs_countable n = subst (λ (s : Sealed). IsCountable s.program) (sym legs_program) n
+
 -- ---- the pipeline
 
 grows : (size large percent : ℕ) → size ≤ grown size large percent
@@ -67,9 +71,9 @@ drop_replaces p q a h = reached_replaces p q a h.functions h.mode
 counted_once : (n : ℕ) (q : Program) → CountsWithin (1 * n) q → CountsWithin n q
 counted_once n q h = let same : 1 * n ≡ n = omega arith in subst (λ m. CountsWithin m q) same h
 
--- what is dropped can be counted
-pub dropped_countable : (p q : Sealed) → IsAccepted p.program → DropsUnreached p q → IsCountable p.program → IsCountable q.program
-dropped_countable p q a h n = counted_once (2 ^ 32) q.program ((drop_replaces p q a h).counts (2 ^ 32) n)
+-- what replaces a program, with a factor of one, can be counted
+pub still_countable : (p q : Sealed) → Replaces 1 p q → IsCountable p.program → IsCountable q.program
+still_countable p q r n = counted_once (2 ^ 32) q.program (r.counts (2 ^ 32) n)
 
 module _ (p : Sealed) (asked : Asked) (passes : Passes) (params : Params) (product : Product) (accepted : IsAccepted p.program) (h : IsPipeline p asked passes params product) where
   first : Replaces 1 p h.reached

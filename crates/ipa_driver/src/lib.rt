@@ -28,6 +28,6 @@ pub use summary::Counts;
 pub use top::optimise_alone;
 pub use verdict::one_verdict;
 pub use words::{
-    Information, Name, Options, RunOptions, SourceName, UsageFault, asked_information, input_numbers,
-    read_run_words, read_words,
+    Information, Name, Options, RunOptions, SourceName, UsageFault, asked_information,
+    input_numbers, read_run_words, read_words,
 };

@@ -34,9 +34,9 @@ returns-in-Err-work g c =
 pub returns-in-Err : goal.returns-in-Err
 returns-in-Err g c =
     let old : Meaning = g.S.Shelf.meaning c.args.shelf.now in
-    let new : Meaning = g.S.Shelf.meaning c.tell.new.shelf in
+    let new : Meaning = g.S.Shelf.meaning c.tell-in-Err.new.shelf in
     let words = c.args.words.now in
     let f = c.in-Err.fault in
     let faulty : run_words_of words ≡ Err f = search rules in
-    let ends = top_misused Runner words (run_words_of words) run_source (IsRunOutput words) old old new f faulty c.tell.ensures.told in
-    subst (λ (f : Finish). TopAnswers Runner words (run_words_of words) run_source (IsRunOutput words) old new f) (sym c.tell.ensures.finish) ends
+    let ends = top_misused Runner words (run_words_of words) run_source (IsRunOutput words) old old new f faulty c.tell-in-Err.ensures.told in
+    subst (λ (f : Finish). TopAnswers Runner words (run_words_of words) run_source (IsRunOutput words) old new f) (sym c.tell-in-Err.ensures.finish) ends

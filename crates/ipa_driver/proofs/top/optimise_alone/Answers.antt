@@ -35,9 +35,9 @@ returns-in-Err-work g c =
 pub returns-in-Err : goal.returns-in-Err
 returns-in-Err g c =
     let old : Meaning = g.S.Shelf.meaning c.args.shelf.now in
-    let new : Meaning = g.S.Shelf.meaning c.tell.new.shelf in
+    let new : Meaning = g.S.Shelf.meaning c.tell-in-Err.new.shelf in
     let words = c.args.words.now in
     let f = c.in-Err.fault in
     let faulty : options_of words ≡ Err f = search rules in
-    let ends = top_misused Optimiser words (options_of words) (λ (o : Options). o.source) AreOutputs old old new f faulty c.tell.ensures.told in
-    subst (λ (f : Finish). TopAnswers Optimiser words (options_of words) (λ (o : Options). o.source) AreOutputs old new f) (sym c.tell.ensures.finish) ends
+    let ends = top_misused Optimiser words (options_of words) (λ (o : Options). o.source) AreOutputs old old new f faulty c.tell-in-Err.ensures.told in
+    subst (λ (f : Finish). TopAnswers Optimiser words (options_of words) (λ (o : Options). o.source) AreOutputs old new f) (sym c.tell-in-Err.ensures.finish) ends
