@@ -13,6 +13,5 @@ pub mod Flowing
 pub mod BranchCounts
 pub mod Settled
 pub mod GivenFirst
-pub mod ExampleLaws
 pub mod FoundWhereLaws
 pub mod TopFit

@@ -13,6 +13,5 @@ pub mod Changed
 pub mod Found
 pub mod Setting
 pub mod Tabled
-pub mod Examples
 pub mod FoundWhere
 pub mod TopFacts

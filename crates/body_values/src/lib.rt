@@ -14,8 +14,6 @@ mod load_table;
 mod point_rows;
 mod program_tables;
 mod scene;
-#[cfg(test)]
-mod tests;
 mod tops;
 mod transfer;
 mod values;
