@@ -84,7 +84,11 @@ fn sums_that_wrap(rt: HostRuntime) -> Result<(), TestFail> {
         },
     ];
     for row in &rows {
-        assert!(rt; folds_in(rt.alloc(), Mode::Wrap, NUMBERS, 0, row)?, "{}", row.name);
+        assert!(rt;
+            folds_in(rt.alloc(), Mode::Wrap, NUMBERS, 0, row)?,
+            "{}",
+            row.name
+        );
     }
     Ok(())
 }
@@ -110,7 +114,11 @@ fn sums_that_trap(rt: HostRuntime) -> Result<(), TestFail> {
     return 1;
 ",
     };
-    assert!(rt; folds_in(rt.alloc(), Mode::Trap, NUMBERS, 0, &row)?, "{}", row.name);
+    assert!(rt;
+        folds_in(rt.alloc(), Mode::Trap, NUMBERS, 0, &row)?,
+        "{}",
+        row.name
+    );
     Ok(())
 }
 
@@ -175,8 +183,16 @@ fn divisions_in_both_modes(rt: HostRuntime) -> Result<(), TestFail> {
         },
     ];
     for row in &rows {
-        assert!(rt; folds_in(rt.alloc(), Mode::Trap, NUMBERS, 0, row)?, "{}", row.name);
-        assert!(rt; folds_in(rt.alloc(), Mode::Wrap, NUMBERS, 0, row)?, "{}", row.name);
+        assert!(rt;
+            folds_in(rt.alloc(), Mode::Trap, NUMBERS, 0, row)?,
+            "{}",
+            row.name
+        );
+        assert!(rt;
+            folds_in(rt.alloc(), Mode::Wrap, NUMBERS, 0, row)?,
+            "{}",
+            row.name
+        );
     }
     Ok(())
 }
