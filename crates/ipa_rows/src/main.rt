@@ -12,6 +12,8 @@ mod row;
 mod sketch;
 mod trial;
 
+use gimple_ir::{Site, TypeFault};
+use ipa_driver::UsageFault;
 use misread::Misread;
 use reader::Reader;
 use report::{Tally, print_differences};
@@ -90,6 +92,16 @@ fn try_file(rt: &HostRuntime, reader: &mut Reader, file: &str) -> Result<Tally, 
     Ok(tally)
 }
 
+/// Prints the texts of the two errors that a caller of the crates below may show, which no contract pins.
+fn print_error_texts(rt: &HostRuntime) {
+    let usage = UsageFault { word: 3, code: 2 };
+    let types = TypeFault {
+        code: 5,
+        site: Site::Whole,
+    };
+    let _ = println!(rt; "{usage}; {types}");
+}
+
 fn main(rt: HostRuntime) -> ExitCode {
     let Ok(arguments) = env::args(&rt) else {
         return ExitCode::from(2);
@@ -109,6 +121,7 @@ fn main(rt: HostRuntime) -> ExitCode {
             }
         }
     }
+    print_error_texts(&rt);
     let Tally { runs, faults } = total;
     let _ = println!(rt; "{runs} rows, {faults} not as they must be");
     ExitCode::from(if faults == 0 { 0 } else { 1 })
