@@ -5,7 +5,7 @@ ghost use Rattle.gimple_ir.specs.Counts.{IsCountable};
 
 use body_fold::fold;
 use body_values::{top_facts, values_of};
-use fix_engine::RoundSolver;
+use fix_engine::Solver;
 use gimple_core::{Checked, Function, Mode, OutOfMemory, Params, Text};
 use gimple_text::{TextFault, parse, print};
 use gimple_types::{Refusal, accept};
@@ -46,24 +46,30 @@ fn accepted(alloc: Global, mode: Mode, text: &[u8]) -> Result<Option<Checked>, O
 }
 
 /// The function of a number, folded.
-fn folded_function(alloc: Global, program: &Checked, number: u32) -> Result<Function, OutOfMemory>
+fn folded_function<S: Solver>(
+    alloc: Global,
+    program: &Checked,
+    number: u32,
+    solver: &mut S,
+) -> Result<Function, OutOfMemory>
     requires countable { IsCountable program.now.program }
     requires within { number < length program.now.program.functions }
 {
     let source = program.program();
     let function = &source.functions.as_slice()[number as usize];
     let facts = top_facts(alloc, function)?;
-    let values = values_of(alloc, program, number, &facts, &mut RoundSolver, &OPTIONS)?;
+    let values = values_of(alloc, program, number, &facts, solver, &OPTIONS)?;
     fold(alloc, program, number, &values)
 }
 
 /// The canonical text of the program of a text, with the function of a number folded in a mode. None where the text is too long or
 /// has no program without a type fault, or the program no function of this number.
-pub fn folded_text(
+pub fn folded_text<S: Solver>(
     alloc: Global,
     mode: Mode,
     text: &[u8],
     number: u32,
+    solver: &mut S,
 ) -> Result<Option<Text>, OutOfMemory> {
     if text.len() > LIMIT {
         return Ok(None);
@@ -74,7 +80,7 @@ pub fn folded_text(
     if number as usize >= checked.program().functions.len() {
         return Ok(None);
     }
-    let function = folded_function(alloc, &checked, number)?;
+    let function = folded_function(alloc, &checked, number, solver)?;
     let mut program = checked.into_program();
     program.functions.set(number as usize, function);
     Ok(Some(print(alloc, &program)?))

@@ -8,7 +8,7 @@ use Rattle.fold_rows.proofs.Folding.{of_function, facts_fit}
 use Rattle.fold_rows.proofs.folds.folded_function.Goals as goal
 
 pub values_of-requires-clause-branches : goal.values_of-requires-clause-branches
-values_of-requires-clause-branches c =
+values_of-requires-clause-branches g c =
     let there : slice_get c.args.program.now.program.functions c.args.number ≡ Some c.index-as_slice-number.result =
     numbered c.program-source.result.now c.args.program.now.program c.as_slice.result.now c.args.number c.index-as_slice-number.result c.program-source.ensures.same c.as_slice.ensures c.requires.within c.index-as_slice-number.is in
     let few = All-get_or (λ (f : Function). branches_of_function f < 2 ^ 32) c.args.program.now.program.functions c.args.number c.index-as_slice-number.result c.requires.within c.requires.countable.branches in
@@ -16,7 +16,7 @@ values_of-requires-clause-branches c =
     (subst (λ (f : Function). branches_of_function f < 2 ^ 32) (get_or_from_slice_get c.args.program.now.program.functions c.args.number c.index-as_slice-number.result c.index-as_slice-number.result there) few)
 
 pub values_of-requires-clause-facts : goal.values_of-requires-clause-facts
-values_of-requires-clause-facts c =
+values_of-requires-clause-facts g c =
     let there : slice_get c.args.program.now.program.functions c.args.number ≡ Some c.index-as_slice-number.result =
     numbered c.program-source.result.now c.args.program.now.program c.as_slice.result.now c.args.number c.index-as_slice-number.result c.program-source.ensures.same c.as_slice.ensures c.requires.within c.index-as_slice-number.is in
     facts_fit c.args.program.now.program c.args.number c.index-as_slice-number.result c.in_ok-facts.facts 8 there c.in_ok-facts.ensures.fit
