@@ -6,3 +6,4 @@ pub mod Classes
 pub mod SentAccepted
 pub mod MergedLaws
 pub mod Marked
+pub mod Rounds
