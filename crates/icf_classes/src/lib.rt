@@ -4,6 +4,11 @@
 
 mod merger;
 mod merging;
+mod placed;
 
 pub use gimple_core::Numbers;
 pub use merging::{merge, merging_keeps_runs};
+pub use placed::{
+    PlacedBase, PlacedBlock, PlacedCase, PlacedEnd, PlacedFunction, PlacedLocal, PlacedOperand,
+    PlacedOperands, PlacedStmt, PlacedStmts, Seen, Spot,
+};
