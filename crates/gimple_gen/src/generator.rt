@@ -2,6 +2,8 @@
 
 ghost use Rattle.std.specs.Prelude.{◌≡◌, ◌≤◌, ◌++◌, map, IfOk, OnOk};
 ghost use Rattle.std.specs.List.{range_with_len, flat_map};
+ghost use Rattle.gimple_ir.specs.Counts.{IsCountable};
+ghost use Rattle.gimple_ir.specs.Spellable.{IsSpellable};
 ghost use Rattle.gimple_gen.specs.Generated.{asked, function_of, main_block, main_of, generated};
 
 use crate::bodies::function;
@@ -83,12 +85,11 @@ fn called_functions(alloc: Heap, functions: u32) -> Result<Functions, OutOfMemor
     Ok(list)
 }
 
-/// The generated program of so many functions and `main`. The answer is want of memory alone.
+/// The program, made function by function.
 #[tactic(auto, unfolding(crate::specs::Generated::generated))]
-pub fn generate(alloc: Heap, functions: u32) -> Result<Program, OutOfMemory>
-    requires some { 1 ≤ functions }
-    requires few { functions ≤ 65536 }
-    ensures exact { IfOk result (λ program. program ≡ generated functions) }
+fn made(alloc: Heap, functions: u32) -> Result<Program, OutOfMemory>
+    requires { functions ≤ 65536 }
+    ensures { IfOk result (λ program. program ≡ generated functions) }
 {
     let mut list = called_functions(alloc, functions)?;
     let main = main_function(alloc, functions)?;
@@ -99,4 +100,17 @@ pub fn generate(alloc: Heap, functions: u32) -> Result<Program, OutOfMemory>
         globals: Globals::new(alloc),
         functions: list,
     })
+}
+
+/// The generated program of so many functions and `main`, which has a text, and few enough parts to be checked. The answer
+/// is want of memory alone. The rule stands in docs/PASSES.md.
+pub fn generate(alloc: Heap, functions: u32) -> Result<Program, OutOfMemory>
+    requires some { 1 ≤ functions }
+    requires few { functions ≤ 65536 }
+    ensures exact { IfOk result (λ program. program ≡ generated functions) }
+    ensures spellable { IfOk result IsSpellable }
+    ensures countable { IfOk result IsCountable }
+{
+    let program = made(alloc, functions)?;
+    Ok(program)
 }
