@@ -4,6 +4,7 @@ ghost use Rattle.std.specs.Prelude.{◌≡◌, ◌≤◌, ◌++◌, map, IfOk, O
 ghost use Rattle.std.specs.List.{range_with_len, flat_map};
 ghost use Rattle.gimple_ir.specs.Counts.{IsCountable};
 ghost use Rattle.gimple_ir.specs.Spellable.{IsSpellable};
+ghost use Rattle.gimple_core.specs.Accepted.{IsAccepted};
 ghost use Rattle.gimple_gen.specs.Generated.{asked, function_of, main_block, main_of, generated};
 
 use crate::bodies::function;
@@ -102,12 +103,13 @@ fn made(alloc: Heap, functions: u32) -> Result<Program, OutOfMemory>
     })
 }
 
-/// The generated program of so many functions and `main`, which has a text, and few enough parts to be checked. The answer
-/// is want of memory alone. The rule stands in docs/PASSES.md.
+/// The generated program of so many functions and `main`, which has no type fault, a text, and parts that 32 bits can
+/// number. The rule stands in docs/PASSES.md. Err is want of memory.
 pub fn generate(alloc: Heap, functions: u32) -> Result<Program, OutOfMemory>
     requires some { 1 ≤ functions }
     requires few { functions ≤ 65536 }
     ensures exact { IfOk result (λ program. program ≡ generated functions) }
+    ensures accepted { IfOk result IsAccepted }
     ensures spellable { IfOk result IsSpellable }
     ensures countable { IfOk result IsCountable }
 {

@@ -1,4 +1,4 @@
-//! Large programs, made by rule, to measure passes on.
+//! Large lawful programs, made by rule, to measure passes on.
 #![tactic(auto)]
 
 mod bodies;
