@@ -7,18 +7,18 @@ use Rattle.gimple_ir.specs.declared.block.Block.{Block}
 use Rattle.fix_engine.specs.Rows.{Each}
 use Rattle.fix_engine.specs.declared.lifted.Lifted.{Lifted}
 use Rattle.fix_engine.specs.declared.lifted.Lifted.TheVariants.{NotReached, Reached}
+use Rattle.block_flow.specs.Steps.{where_reached}
+use Rattle.block_flow.specs.System.{value_or, AreFew}
 use Rattle.value_domain.specs.declared.abs_val.AbsVal.{AbsVal}
 use Rattle.value_domain.specs.Values.{is_none_val}
 use Rattle.body_values.specs.declared.scene.Scene.{Scene}
 use Rattle.body_values.specs.declared.block_values.Change.{Change}
 use Rattle.body_values.specs.declared.block_values.Change.TheVariants.{Nothing, Sets, Ends}
-use Rattle.body_values.specs.Bodies.{Body, place_of, is_abort, target_of, register_scalar, result_value, after_target, after_stmt, where_reached}
+use Rattle.body_values.specs.Bodies.{Body, place_of, is_abort, target_of, register_scalar, result_value, after_target, after_stmt}
 use Rattle.body_values.specs.Changed.{changed, rows_by, value_after, value_through, reached_through, set_to, change_of}
-use Rattle.body_values.specs.Flow.{value_or}
 use Rattle.body_values.specs.Found.{value_of}
 use Rattle.body_values.specs.FoundWhere.{is_reached}
 use Rattle.body_values.specs.PointRows.{rows_from, block_rows}
-use Rattle.body_values.specs.Ready.{AreFew}
 use Rattle.body_values.specs.Scenes.{body_in, FitsIn}
 
 -- ---- the rows by their numbers

@@ -9,17 +9,21 @@ use Rattle.gimple_core.specs.Sealed.{Sealed}
 use Rattle.std.specs.Str.{bytes_eq}
 use Rattle.fix_engine.specs.declared.lifted.Lifted.{Lifted}
 use Rattle.fix_engine.specs.declared.lifted.Lifted.TheVariants.{NotReached, Reached}
+use Rattle.fix_engine.specs.Rows.{FitsRows, rows_below}
+use Rattle.block_flow.specs.Steps.{StepsLaws}
+use Rattle.block_flow.specs.System.{body_at, value_or, point_value}
+use Rattle.block_flow.proofs.Solved.{value_fits}
+use Rattle.block_flow.proofs.Holding.{statements_fit}
 use Rattle.value_domain.specs.declared.abs_val.AbsVal.{AbsVal}
+use Rattle.value_domain.specs.Values.{FitsAbsVal, abs_val_below, kind_of}
 use Rattle.value_domain.specs.Thresholds.{Limits, IsLawful}
 use Rattle.body_values.specs.declared.facts.Facts.{Facts}
 use Rattle.body_values.specs.Bodies.{place_of}
-use Rattle.body_values.specs.Flow.{body_of, body_at, value_or, values_at}
+use Rattle.body_values.specs.Flow.{body_of, entry_row, steps_in, values_at}
 use Rattle.body_values.specs.Found.{Found, AreFound, found_row, value_of, is_index}
 use Rattle.body_values.specs.FoundWhere.{IsReached, FoundThere, FoundThereAlone}
-use Rattle.body_values.specs.Rising.{body_rises}
 use Rattle.body_values.specs.Rows.{LiftedFits}
-use Rattle.body_values.specs.System.{FactsFit, loads_fit, file_self}
-use Rattle.body_values.proofs.Solved.{value_fits}
+use Rattle.body_values.specs.System.{FactsFit, loads_fit, entry_fits, file_from, steps_laws}
 
 -- ---- rows have one value a register
 
@@ -36,13 +40,15 @@ module _ (p : Sealed) (n : ℕ) (f : Function) (facts : Facts) (limits : Limits)
   abbrev Fits : Lifted (List AbsVal) → Type 0
   Fits x = LiftedFits limits.size limits.ends (length (f.params ++ f.registers)) x
 
+  laws : StepsLaws (FitsRows FitsAbsVal) (rows_below abs_val_below) (length (f.params ++ f.registers) ∷ kind_of limits.size limits.ends) (steps_in p n f facts limits.size limits.ends)
+  laws = steps_laws (body_of p n f facts limits.size limits.ends) law (loads_fit p n f facts limits.size limits.ends fit) (entry_row f facts.formals limits.size limits.ends) (entry_fits f facts limits.size limits.ends law fit)
+
   values_fit : (k i : ℕ) → k < length f.blocks → Fits (values_at (body_of p n f facts limits.size limits.ends) f.blocks found.begins k i)
-  unfolding values_at
+  unfolding point_value
   values_fit k i l =
-      let begin = value_fits p n f facts limits.size limits.ends law found.begins found.values.solves k l in
-      let loads = loads_fit p n f facts limits.size limits.ends fit in
-      (body_rises (body_of p n f facts limits.size limits.ends) law loads k 0 (take i (body_at (slice_get f.blocks k))) (value_or (slice_get found.begins k)) (value_or (slice_get found.begins k))
-      (file_self (body_of p n f facts limits.size limits.ends) law loads (value_or (slice_get found.begins k)) begin)).upper
+      let begin = value_fits (FitsRows FitsAbsVal) (rows_below abs_val_below) (length (f.params ++ f.registers) ∷ kind_of limits.size limits.ends) (steps_in p n f facts limits.size limits.ends) f.blocks found.begins found.values.solves k l in
+      file_from limits.size limits.ends (length (f.params ++ f.registers)) _ law
+      (statements_fit (FitsRows FitsAbsVal) (rows_below abs_val_below) (length (f.params ++ f.registers) ∷ kind_of limits.size limits.ends) (steps_in p n f facts limits.size limits.ends) laws k 0 (take i (body_at (slice_get f.blocks k))) (value_or (slice_get found.begins k)) begin)
 
   -- so do those at each point
   pub row_fits : (k i : ℕ) → Fits (found_row t.rows k i)
@@ -53,7 +59,7 @@ module _ (p : Sealed) (n : ℕ) (f : Function) (facts : Facts) (limits : Limits)
 abbrev named : List ℕ → List Register → Bool
 named name rs = list_any (λ r. bytes_eq r.name name) rs
 
-named_place : (name : List ℕ) (rs : List Register) → named name rs ≡ true → place_of rs name < length rs
+pub named_place : (name : List ℕ) (rs : List Register) → named name rs ≡ true → place_of rs name < length rs
 named_place name [] h = cc
 named_place name (r ∷ rs) h = by (bytes_eq r.name name) h (λ k. named_place name rs k)
   where

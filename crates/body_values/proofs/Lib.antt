@@ -3,15 +3,16 @@ pub mod Operands
 pub mod Stmts
 pub mod Taken
 pub mod Items
-pub mod Solved
+pub mod Entered
 pub mod Points
 pub mod ByChanges
 pub mod Always
 pub mod Written
 pub mod Refined
-pub mod Flowing
-pub mod BranchCounts
 pub mod Settled
 pub mod GivenFirst
 pub mod FoundWhereLaws
 pub mod TopFit
+pub mod TopMet
+pub mod Lookups
+mod Sharing

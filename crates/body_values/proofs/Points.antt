@@ -1,7 +1,6 @@
 -- The values hold at each point of each activation that meets the facts.
-use Rattle.std.proofs.Common.{◌≡◌, ℕ, ◌<◌, ℤ, true, List, [], ◌∷◌, ◌++◌, length, refl, sym, ◌∙◌, ap, subst, append-nil, arith, Option, Some, None, IfSome, Ok, slice_get}
+use Rattle.std.proofs.Common.{◌≡◌, ℕ, ℤ, true, List, ◌∷◌, ◌++◌, length, refl, sym, ◌∙◌, ap, subst, Option, Some, None, Ok, IfSome, slice_get}
 use Rattle.std.specs.List.{AllByRecursion, list_all}
-use Rattle.std.proofs.lemmas.Option.{slice_get_within}
 use Rattle.gimple_ir.specs.declared.scalar.Scalar.{Scalar}
 use Rattle.gimple_ir.specs.declared.scalar.Scalar.TheVariants.{I64}
 use Rattle.gimple_ir.specs.declared.value.Value.{Value}
@@ -15,42 +14,46 @@ use Rattle.gimple_ir.specs.declared.program.Function.{Function}
 use Rattle.gimple_core.specs.Sealed.{Sealed}
 use Rattle.gimple_core.specs.declared.machine.FoundSlot.{FoundSlot}
 use Rattle.gimple_core.specs.Operators.{in_scalar}
-use Rattle.gimple_core.specs.Memory.{Memory, found_at}
-use Rattle.gimple_core.specs.State.{Control, World, State, scope_of, setting_of}
-use Rattle.gimple_core.specs.Run.{Calling, call_of, act, step, resumed, given, taking, labelled, Exit, ToLabel, Returns, exit_of, registers_made, control_made, place_value}
-use Rattle.gimple_core.specs.Trace.{Event, told, accesses, load_event}
+use Rattle.gimple_core.specs.Memory.{found_at}
+use Rattle.gimple_core.specs.State.{World, State, scope_of, setting_of}
+use Rattle.gimple_core.specs.Run.{Calling, call_of, act, step, given, taking, Exit, ToLabel, Returns, exit_of, place_value}
+use Rattle.gimple_core.specs.Trace.{Event, accesses, load_event}
 use Rattle.gimple_core.specs.Env.{functions_by_name}
 use Rattle.gimple_core.specs.Statements as check
 use Rattle.gimple_core.proofs.Passed.{first_passed}
 use Rattle.gimple_core.proofs.StepLemmas.{calling_stmt, call_is}
-use Rattle.gimple_claims.specs.Bodies.{MeetsAt, Meets, BodyFlow, IsBlock, first, jumped, StateAt, begin, next, IsAt, carried}
+use Rattle.gimple_claims.specs.Bodies.{MeetsAt, Meets}
 use Rattle.gimple_claims.specs.Checks.{env_of, StmtsPass}
 use Rattle.gimple_claims.specs.Typed.{frame_typed}
 use Rattle.gimple_claims.proofs.Comes.{Comes}
-use Rattle.gimple_claims.proofs.Files.{Placed, placed}
 use Rattle.gimple_claims.proofs.Globals.{globals_hold}
-use Rattle.gimple_claims.proofs.Blocks.{label_at}
 use Rattle.gimple_claims.proofs.Callees.{called_of}
 use Rattle.gimple_claims.proofs.Lost.{stands}
 use Rattle.gimple_claims.proofs.Points.{before, accesses_meet, in_did_always}
 use Rattle.gimple_claims.proofs.Typed.{values_are_typed}
-use Rattle.gimple_claims.proofs.Activation.{Activation, here}
 use Rattle.fix_engine.specs.declared.lifted.Lifted.{Lifted}
-use Rattle.fix_engine.specs.declared.lifted.Lifted.TheVariants.{NotReached, Reached}
+use Rattle.fix_engine.specs.declared.lifted.Lifted.TheVariants.{Reached}
+use Rattle.fix_engine.specs.Rows.{FitsRows, rows_below}
+use Rattle.block_flow.specs.Branches.{labels_of}
+use Rattle.block_flow.specs.Steps.{StepsLaws}
+use Rattle.block_flow.specs.System.{point_value}
+use Rattle.block_flow.specs.Runs.{Assertion, IsSound}
+use Rattle.block_flow.proofs.Holding.{is_there}
 use Rattle.value_domain.specs.declared.abs_val.AbsVal.{AbsVal}
 use Rattle.value_domain.specs.Holding.{Holds}
+use Rattle.value_domain.specs.Values.{FitsAbsVal, abs_val_below, kind_of}
 use Rattle.body_values.specs.declared.facts.Facts.{Facts}
-use Rattle.body_values.specs.Bodies.{Body, where_reached, after_stmt, after_body, after_end}
-use Rattle.body_values.specs.Flow.{given_load, body_of, entry_row, block_place, place_or, labels_of, value_or}
-use Rattle.body_values.specs.Rows.{RowFits, LiftedFits}
-use Rattle.body_values.specs.Rising.{LoadsFit, self, stmt_rises, end_rises}
-use Rattle.body_values.specs.System.{loads_fit, entry_fits}
+use Rattle.body_values.specs.Bodies.{Body, after_stmt, after_end}
+use Rattle.body_values.specs.Flow.{given_load, body_of, entry_row, steps_in, values_at}
+use Rattle.body_values.specs.Rows.{RowFits}
+use Rattle.body_values.specs.Rising.{LoadsFit}
+use Rattle.body_values.specs.System.{loads_fit, entry_fits, row_from, steps_laws}
 use Rattle.body_values.specs.Claims.{RowHolds, FileHolds, given_of, Analysed}
+use Rattle.body_values.proofs.Held.{row_above}
 use Rattle.body_values.proofs.Stmts.{stmt_holds, call_holds}
 use Rattle.body_values.proofs.Taken.{if_branches, switch_branches}
 use Rattle.body_values.proofs.Items.{item_holds}
-use Rattle.body_values.proofs.BranchCounts.{label_place}
-use Rattle.body_values.proofs.Solved.{to_option, reached_is, flow_of, carried_is, value_fits, entry_holds, first_above, next_above}
+use Rattle.body_values.proofs.Entered.{entry_holds}
 
 abbrev label_of : Exit → Option ℕ
 label_of (ToLabel label) = Some label
@@ -71,52 +74,23 @@ module _ (p : Sealed) (n : ℕ) (f : Function) (facts : Facts) (most : ℕ) (ts 
   abbrev count : ℕ
   count = length (f.params ++ f.registers)
 
+  abbrev Fits : List AbsVal → Type 0
+  Fits row = FitsRows FitsAbsVal (length (f.params ++ f.registers) ∷ kind_of most ts) row
+
   loads : LoadsFit B
   loads = loads_fit p n f facts most ts h.fit
 
-  -- the analysis as one of a body; ends are looked at by themselves
-  abbrev pub F : BodyFlow (List AbsVal)
-  F = record {
-    In = λ row values. RowFits most ts (length (f.params ++ f.registers)) row × RowHolds row values;
-    begin = None;
-    flow = flow_of (body_of p n f facts most ts);
-    edge = λ e label row. None;
+  fits_row : (row : List AbsVal) → Fits row → RowFits most ts count row
+  fits_row row fit = row_from most ts count row h.lawful fit
+
+  -- Of an activation whose arguments and loads so far meet the facts each register is in its value. While it waits for a call it
+  -- will be, whatever the call gives that is a value of the register's scalar.
+  abbrev pub values_say : Assertion (List AbsVal)
+  values_say = record {
+    Given = λ serial past. Meets f (given_of n f facts) serial past;
+    Says = λ row past c w. RowHolds row w.registers;
+    Waits = λ y past c registers takes m. (v : Option Value) → frame_typed c (given registers takes v) ≡ true → FileHolds y (given registers takes v);
   }
-
-  abbrev pub sol : ℕ → Option (List AbsVal)
-  sol k = to_option (value_or (slice_get xs k))
-
-  abbrev pub Here : List Event → Control → World → Type 0
-  Here past c w = Meets f (given_of n f facts) c.serial past → frame_typed c w.registers ≡ true → IsAt f F sol c w.registers
-
-  abbrev pub Waits : List Event → Control → List Value → Option ℕ → Memory → Type 0
-  Waits past c values takes m = Meets f (given_of n f facts) c.serial past → (v : Option Value) → frame_typed c (given values takes v) ≡ true → IsAt f F sol c (given values takes v)
-
-  -- the point that a block begins at
-  begins_at : (k : ℕ) (b : Block) (c : Control) (values : List Value) (x : Lifted (List AbsVal)) → value_or (slice_get xs k) ≡ x → IsBlock f k b → c.block ≡ k → c.index ≡ 0 → c.rest ≡ b.body → c.end ≡ b.end → LiftedFits most ts count x → FileHolds x values → IsAt f F sol c values
-  begins_at k b c values NotReached e is kb ib rb eb fits g = absurd g
-  begins_at k b c values (Reached row) e is kb ib rb eb fits g = record {
-    file = row;
-    state = subst (λ (z : Control). StateAt f F sol z.block z.index z.rest z.end row)
-        (λ j. record { function = c.function; block = sym kb j; index = sym ib j; rest = sym rb j; end = sym eb j; serial = c.serial; takes = c.takes }) (begin k b row is (ap to_option e));
-    within = (fits, g);
-  }
-
-  some_blocks : (b : Block) (bs : List Block) → f.blocks ≡ b ∷ bs → 0 < length f.blocks
-  some_blocks b bs e = let l : length f.blocks ≡ length (b ∷ bs) = ap length e in omega (arith, l)
-
-  -- the next point
-  goes_on : (s : State) (x : Stmt) (rest : List Stmt) (values : List Value) (row : List AbsVal) → s.top.rest ≡ x ∷ rest → StateAt f F sol s.top.block s.top.index s.top.rest s.top.end row → RowFits most ts count row →
-      (y : Lifted (List AbsVal)) → after_stmt B s.top.block s.top.index x row ≡ y → LiftedFits most ts count y → FileHolds y values → IsAt f F sol (resumed s rest).top values
-  goes_on s x rest values row e st fits NotReached q g w = absurd w
-  goes_on s x rest values row e st fits (Reached other) q g w = record {
-    file = other;
-    state = next s.top.block s.top.index x rest s.top.end row other (subst (λ ys. StateAt f F sol s.top.block s.top.index ys s.top.end row) e st) (ap to_option q);
-    within = (g, w);
-  }
-
-  after_fits : (k i : ℕ) (x : Stmt) (row : List AbsVal) → RowFits most ts count row → LiftedFits most ts count (after_stmt B k i x row)
-  after_fits k i x row fits = (stmt_rises B h.lawful loads k i x row row (self B h.lawful loads row fits)).upper
 
   passes : (past : List Event) (s : State) → Comes p input past s → (x : Stmt) (rest : List Stmt) → s.top.rest ≡ x ∷ rest → check.statement (env_of p.program s.top.function) (functions_by_name p.program.functions) x ≡ Ok tt
   passes past s c x rest e =
@@ -163,48 +137,58 @@ module _ (p : Sealed) (n : ℕ) (f : Function) (facts : Facts) (most : ℕ) (ts 
   branch_taken past s label row c (Return None) checked t fits holds loads = cc
   branch_taken past s label row c (Return (Some x)) checked t fits holds loads = cc
 
-  jump_goes : (past : List Event) (s : State) (label : ℕ) (row : List AbsVal) → Comes p input past s → s.top.function ≡ f → s.top.rest ≡ [] → exit_of p.program.globals s.top.end s ≡ ToLabel label → StateAt f F sol s.top.block s.top.index s.top.rest s.top.end row →
-      RowFits most ts count row → RowHolds row s.world.registers → FileHolds (value_or (slice_get xs (place_or (block_place label f.blocks)))) s.world.registers
-  jump_goes past s label row c same e t st fits holds =
-      let at : Placed f F sol s.top.block s.top.index [] s.top.end row = placed f F sol s.top.block s.top.index [] s.top.end row (subst (λ ys. StateAt f F sol s.top.block s.top.index ys s.top.end row) e st) in
-      let taken = subst (λ (g : Function). RowFits most ts (length (g.params ++ g.registers)) row → LoadsFit (body_of p n g facts most ts) → (slot : ℕ) × (slice_get (labels_of s.top.end) slot ≡ Some label) × FileHolds (after_end (body_of p n g facts most ts) s.top.end slot row) s.world.registers) same
-      (λ fits loads. branch_taken past s label row c s.top.end (stands p h.accepted input past s c).top.end t fits holds loads) fits loads in
-      let labels : slice_get (labels_of at.block.end) taken.0 ≡ Some label = subst (λ z. slice_get (labels_of z) taken.0 ≡ Some label) at.end taken.1 in
-      let held : FileHolds (after_end B at.block.end taken.0 row) s.world.registers = subst (λ z. FileHolds (after_end B z taken.0 row) s.world.registers) at.end taken.2 in
-      let whole : to_option (after_body B s.top.block 0 at.block.body (value_or (slice_get xs s.top.block))) ≡ Some row =
-      carried_is B s.top.block 0 at.block.body (value_or (slice_get xs s.top.block)) ∙ (ap (λ ys. carried (flow_of B) s.top.block 0 ys (sol s.top.block)) (at.body ∙ append-nil at.done) ∙ at.file) in
-      let file : after_body B s.top.block 0 at.block.body (value_or (slice_get xs s.top.block)) ≡ Reached row = reached_is _ row whole in
-      next_above p n f facts most ts h.lawful xs h.solves s.top.block taken.0 label at.block s.world.registers at.found labels
-      (subst (λ x. LiftedFits most ts count (where_reached x (after_end B at.block.end taken.0))) (sym file) (end_rises B h.lawful loads at.block.end taken.0 row row (self B h.lawful loads row fits)).upper)
-      (subst (λ x. FileHolds (where_reached x (after_end B at.block.end taken.0)) s.world.registers) (sym file) held)
+  end_goes : (past : List Event) (s : State) (label : ℕ) (row : List AbsVal) → Comes p input past s → s.top.function ≡ f → exit_of p.program.globals s.top.end s ≡ ToLabel label → RowFits most ts count row → RowHolds row s.world.registers →
+      (slot : ℕ) × (slice_get (labels_of s.top.end) slot ≡ Some label) × FileHolds (after_end B s.top.end slot row) s.world.registers
+  end_goes past s label row c same t fits holds =
+      subst (λ (g : Function). RowFits most ts (length (g.params ++ g.registers)) row → LoadsFit (body_of p n g facts most ts) → (slot : ℕ) × (slice_get (labels_of s.top.end) slot ≡ Some label) × FileHolds (after_end (body_of p n g facts most ts) s.top.end slot row) s.world.registers) same
+      (λ fits loads. branch_taken past s label row c s.top.end (stands p h.accepted input past s c).top.end t fits holds loads) fits loads
 
-  pub keeps : Activation p input f Here Waits
-  keeps = record {
-    enters = λ past g serial arguments m caller takes b bs w same own be made memory meets kind.
-        let blocks : f.blocks ≡ b ∷ bs = subst (λ (z : Function). z.blocks ≡ b ∷ bs) same be in
-        let mine : w.registers ≡ registers_made f arguments = subst (λ (z : Function). w.registers ≡ registers_made z arguments) same made in
-        let some : 0 < length f.blocks = some_blocks b bs blocks in
-        let entry : FileHolds (entry_row f facts.formals most ts) w.registers = subst (FileHolds (entry_row f facts.formals most ts)) (sym mine) (entry_holds f facts most ts h.lawful h.fit arguments (meets.0 refl same)) in
-        begins_at 0 b (control_made g b serial takes) w.registers (value_or (slice_get xs 0)) refl (first bs blocks refl) refl refl refl refl (value_fits p n f facts most ts h.lawful xs h.solves 0 some)
-        (first_above p n f facts most ts h.lawful xs h.solves w.registers some (entry_fits f facts most ts h.lawful h.fit) entry);
-    stmt = λ past s x rest w comes same there e uncalled did meets kind.
-        let at : IsAt f F sol s.top s.world.registers = there (before (MeetsAt f (given_of n f facts) s.top.serial) past (told p s) meets) (typed past s comes) in
-        goes_on s x rest w.registers at.file e at.state at.within.0 _ refl (after_fits s.top.block s.top.index x at.file at.within.0)
-        (stmt_goes past s x rest w at.file comes same e uncalled did kind (accesses_meet p (MeetsAt f (given_of n f facts) s.top.serial) past s x rest e meets) at.within.0 at.within.1);
-    calls = λ past s x rest k t comes same there e is did meets v kind.
-        let at : IsAt f F sol s.top s.world.registers = there (before (MeetsAt f (given_of n f facts) s.top.serial) past (told p s) meets) (typed past s comes) in
-        goes_on s x rest (given s.world.registers (taking (scope_of s.top) k.to) v) at.file e at.state at.within.0 _ refl (after_fits s.top.block s.top.index x at.file at.within.0)
-        (call_goes past s x rest k v at.file comes same e is kind at.within.0 at.within.1);
-    jumps = λ past s label k b comes same there e t be meets kind.
-        let at : IsAt f F sol s.top s.world.registers = there (before (MeetsAt f (given_of n f facts) s.top.serial) past (told p s) meets) (typed past s comes) in
-        let found : labelled label f.blocks ≡ Some (k, b) = subst (λ (z : Function). labelled label z.blocks ≡ Some (k, b)) same be in
-        let within : k < length f.blocks = slice_get_within f.blocks k b (label_at label k f.blocks b found) in
-        begins_at k b _ s.world.registers (value_or (slice_get xs k)) refl (jumped label found) refl refl refl refl
-        (value_fits p n f facts most ts h.lawful xs h.solves k within)
-        (subst (λ m. FileHolds (value_or (slice_get xs m)) s.world.registers) (label_place label k f.blocks b found) (jump_goes past s label at.file comes same e t at.state at.within.0 at.within.1));
-    others = λ past s c values takes comes there. in_did_always _ (λ t meets. there (before (MeetsAt f (given_of n f facts) c.serial) past (told p s) meets)) (step p s);
-    back = λ past s c values v comes same there e x meets kind. there (before (MeetsAt f (given_of n f facts) c.serial) past (told p s) meets) v kind;
+  sound : IsSound p input f Fits (rows_below abs_val_below) (steps_in p n f facts most ts) values_say
+  sound = record {
+    earlier = λ serial past es meets. before (MeetsAt f (given_of n f facts) serial) past es meets;
+    rises = λ a b past c w x y e holds. let u = fits_row a x in let v = fits_row b y in row_above most ts a b w.registers u.each e (u.count ∙ sym v.count) holds;
+    enters = λ past serial arguments m caller takes b bs w own be made memory meets kind.
+        subst (FileHolds (entry_row f facts.formals most ts)) (sym made) (entry_holds f facts most ts h.lawful h.fit arguments (meets.0 refl refl));
+    statement = λ past s x rest w a comes same e uncalled did meets kind fits holds.
+        stmt_goes past s x rest w a comes same e uncalled did kind (accesses_meet p (MeetsAt f (given_of n f facts) s.top.serial) past s x rest e meets) (fits_row a fits) holds;
+    calls = λ past s x rest k t a comes same e is did meets fits holds v kind. call_goes past s x rest k v a comes same e is kind (fits_row a fits) holds;
+    others = λ past s c registers takes y comes meets there. in_did_always _ (λ t. there) (step p s);
+    back = λ past s c registers v y comes same e x meets kind there. there v kind;
+    jumps = λ past s label k b a comes same e t be meets fits holds. end_goes past s label a comes same t (fits_row a fits) holds;
   }
 
-  pub is_at : (past : List Event) (s : State) → Comes p input past s → s.top.function ≡ f → Meets f (given_of n f facts) s.top.serial past → IsAt f F sol s.top s.world.registers
-  is_at past s c same meets = here p input f Here Waits keeps past s c same meets (typed past s c)
+  laws : StepsLaws (FitsRows FitsAbsVal) (rows_below abs_val_below) (length (f.params ++ f.registers) ∷ kind_of most ts) (steps_in p n f facts most ts)
+  laws = steps_laws B h.lawful loads (entry_row f facts.formals most ts) (entry_fits f facts most ts h.lawful h.fit)
+
+  same_point : (k i : ℕ) → values_at B f.blocks xs k i ≡ point_value (steps_in p n f facts most ts) f.blocks xs k i
+  unfolding point_value
+  same_point k i = refl
+
+  -- where the running activation is, and its registers in their values there
+  pub record IsAt (s : State) : Type 0 where
+    pub row : List AbsVal
+    pub reached : values_at (body_of p n f facts most ts) f.blocks xs s.top.block s.top.index ≡ Reached row
+    pub fits : RowFits most ts (length (f.params ++ f.registers)) row
+    pub holds : RowHolds row s.world.registers
+    pub block : Block
+    pub done : List Stmt
+    pub found : slice_get f.blocks s.top.block ≡ Some block
+    pub body : block.body ≡ done ++ s.top.rest
+    pub index : length done ≡ s.top.index
+    pub end : s.top.end ≡ block.end
+
+  pub is_at : (past : List Event) (s : State) → Comes p input past s → s.top.function ≡ f → Meets f (given_of n f facts) s.top.serial past → IsAt s
+  is_at past s c same meets =
+      let at = is_there p input f (FitsRows FitsAbsVal) (rows_below abs_val_below) (length (f.params ++ f.registers) ∷ kind_of most ts) (steps_in p n f facts most ts) laws values_say xs h.solves h.accepted numbers sound past s c same meets in
+      record {
+        row = at.value;
+        reached = same_point s.top.block s.top.index ∙ at.reached;
+        fits = fits_row at.value at.fit;
+        holds = at.says;
+        block = at.block;
+        done = at.done;
+        found = at.found;
+        body = at.body;
+        index = at.index;
+        end = at.end;
+      }

@@ -1,14 +1,9 @@
 -- What the code asks of refined values.
-use Rattle.std.proofs.Common.{◌≡◌, ℕ, ◌+◌, ◌<◌, ℤ, inr, List, [], ◌∷◌, length, drop, get_or, refl, sym, ◌∙◌, ap, subst}
-use Rattle.std.proofs.lemmas.List.{drop_more}
+use Rattle.std.proofs.Common.{ℤ, inr, refl, sym, ◌≡◌, subst}
 use Rattle.gimple_ir.specs.declared.scalar.Cmp.TheVariants.{Eq, Ne}
-use Rattle.gimple_ir.specs.declared.statement.Stmt.{Stmt}
 use Rattle.gimple_ir.specs.declared.value.Constant.TheVariants.{Int}
-use Rattle.fix_engine.specs.declared.lifted.Lifted.{Lifted}
-use Rattle.fix_engine.specs.declared.lifted.Lifted.TheVariants.{NotReached, Reached}
 use Rattle.value_domain.specs.AbsOperators.{exactly_of}
 use Rattle.value_domain.proofs.AloneLaws.{alone_fits}
-use Rattle.body_values.specs.Bodies.{Body, after_stmt, after_body}
 use Rattle.gimple_ir.specs.declared.scalar.Scalar.{Scalar}
 use Rattle.gimple_ir.specs.declared.scalar.Cmp.{Cmp}
 use Rattle.fix_engine.specs.Lattice.{AreAlike}
@@ -32,10 +27,6 @@ are_alike s scalar a b law x y =
     let back = sym (kind_is s.limits.now.size s.limits.now.ends law) in
     (kind_of s.limits.now.size s.limits.now.ends, subst (λ ts. FitsWith s.limits.now.size ts a) back x.fits, subst (λ ts. FitsWith s.limits.now.size ts b) back y.fits)
 
-pub gone : (B : Body) (k i : ℕ) (ss : List Stmt) → after_body B k i ss NotReached ≡ NotReached
-gone B k i [] = refl
-gone B k i (s ∷ ss) = gone B k (i + 1) ss
-
 pub case_good : (s : Scene) (scalar : Scalar) (z : ℤ) (v : AbsVal) → IsLawful s.limits.now.ends → v ≡ exactly_of scalar s.limits.now.size s.limits.now.ends (Int z) → IsGoodIn s scalar v
 case_good s scalar z v law e = let g = alone_fits s.limits.now.size s.limits.now.ends law scalar (Int z) in subst (IsGoodIn s scalar) (sym e) (record { fits = g.0; of = g.1 })
 
@@ -44,9 +35,3 @@ equality_may scalar = inr refl
 
 pub same_may : (scalar : Scalar) → MayCompare Eq scalar
 same_may scalar = inr refl
-
-pub stopped : (B : Body) (k i : ℕ) (body : List Stmt) (x : Stmt) (row : List AbsVal) (e : Lifted (List AbsVal)) → i < length body → x ≡ get_or body i x → after_stmt B k i x row ≡ NotReached → after_body B k i (drop i body) (Reached row) ≡ e → NotReached ≡ e
-stopped B k i body x row e l is stop h =
-    let next : drop i body ≡ x ∷ drop (i + 1) body = drop_more body i x l ∙ ap (λ y. y ∷ drop (i + 1) body) (sym is) in
-    let end : after_body B k i (drop i body) (Reached row) ≡ NotReached = ap (λ ys. after_body B k i ys (Reached row)) next ∙ (ap (after_body B k (i + 1) (drop (i + 1) body)) stop ∙ gone B k (i + 1) (drop (i + 1) body)) in
-    sym end ∙ h

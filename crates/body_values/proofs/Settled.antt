@@ -23,26 +23,26 @@ use Rattle.fix_engine.specs.Rows.{Each}
 use Rattle.fix_engine.specs.Least.{value_at}
 use Rattle.fix_engine.specs.declared.lifted.Lifted.{Lifted}
 use Rattle.fix_engine.specs.declared.lifted.Lifted.TheVariants.{NotReached}
+use Rattle.block_flow.specs.Steps.{where_reached, after_statements}
+use Rattle.block_flow.specs.System.{equations_of, body_at, value_or, point_value, AreFew}
+use Rattle.block_flow.proofs.BranchCounts.{function_branches}
 use Rattle.value_domain.specs.declared.abs_val.AbsVal.{AbsVal}
 use Rattle.value_domain.specs.Values.{FitsWith}
 use Rattle.value_domain.specs.Thresholds.{Limits, IsLawful, thresholds_list}
 use Rattle.value_domain.proofs.LawfulLemmas.{list_lawful}
 use Rattle.body_values.specs.declared.facts.Facts.{Facts}
 use Rattle.body_values.specs.declared.facts.LoadFact.{LoadFact}
-use Rattle.body_values.specs.declared.branches.Branch.{Branch}
 use Rattle.body_values.specs.declared.scene.Scene.{Scene}
-use Rattle.body_values.specs.Bodies.{Body, where_reached, after_stmt, after_body}
+use Rattle.body_values.specs.Bodies.{Body, after_stmt}
 use Rattle.body_values.specs.Fitting.{fits_by, is_fitting, file_by, is_file}
-use Rattle.body_values.specs.Flow.{given_load, body_of, entry_row, branches_of, equations_of, body_at, value_or, values_at}
+use Rattle.body_values.specs.Flow.{given_load, body_of, entry_row, steps_of}
 use Rattle.body_values.specs.GivenLoads.{GivenLoads}
 use Rattle.body_values.specs.Found.{OfFunction, Found, AreFound, found_row, is_index, point_row}
 use Rattle.body_values.specs.PointRows.{rows_from, block_rows}
-use Rattle.body_values.specs.Ready.{loads_by, Carried, AreFew}
+use Rattle.body_values.specs.Ready.{loads_by, Carried, lawful_of}
 use Rattle.body_values.specs.Scenes.{body_in, FitsIn}
 use Rattle.body_values.specs.Setting.{IsGiven, IsSceneBy, IsSceneOf, AreBegins, AreRows, WereFound}
-use Rattle.body_values.specs.System.{FactsFit, entry_fits}
-use Rattle.body_values.proofs.Flowing.{fits_in}
-use Rattle.body_values.proofs.BranchCounts.{function_branches}
+use Rattle.body_values.specs.System.{FactsFit, file_from, entry_fits}
 use Rattle.gimple_core.proofs.AcceptedLayouts.{global_layout}
 
 -- ---- what a flow carries
@@ -109,9 +109,6 @@ are_few bs branches h g = record {
 pub fewer : (bs : List Block) (branches : ℕ) → AreFew bs branches → AreFew bs 0
 fewer bs branches h = record { blocks_few = h.blocks_few; branches_few = omega arith; bodies_few = h.bodies_few }
 
-pub few_as : (blocks : List Block) (bs : List Branch) → bs ≡ branches_of blocks → AreFew blocks (length (branches_of blocks)) → AreFew blocks (length bs)
-few_as blocks bs e h = subst (λ ys. AreFew blocks (length ys)) (sym e) h
-
 function_within : (fs : List Function) (k : ℕ) (f : Function) → slice_get fs k ≡ Some f → size_of_function f ≤ sum_by size_of_function fs
 function_within [] k f e = cc
 function_within (x ∷ fs) zero f e =
@@ -128,15 +125,15 @@ each_of P (x ∷ xs) d h = (h 0 (omega arith), each_of P xs (λ n. d (suc n)) (�
 
 pub begins_fit : (s : Scene) (blocks : List Block) (e : Lifted (List AbsVal)) (xs : List (Lifted (List AbsVal))) → Carried s → AreBegins (body_in s) blocks e xs → Each (FitsIn s) xs
 begins_fit s blocks e xs c h =
-    each_of (FitsIn s) xs (equations_of (body_in s) blocks e).start
-    (λ n l. fits_in s (value_at (equations_of (body_in s) blocks e) xs n) c (h.solves.fit n (subst (λ m. n < m) h.solves.one_each l)))
+    each_of (FitsIn s) xs (equations_of (steps_of (body_in s) e) blocks).start
+    (λ n l. file_from s.limits.now.size s.limits.now.ends (length s.registers.now) (value_at (equations_of (steps_of (body_in s) e) blocks) xs n) (lawful_of s c) (h.solves.fit n (subst (λ m. n < m) h.solves.one_each l)))
 
 pub rows_are : (B : Body) (blocks : List Block) (e : Lifted (List AbsVal)) (xs : List (Lifted (List AbsVal))) (rows : List (List (Lifted (List AbsVal)))) → AreBegins B blocks e xs → rows ≡ block_rows B 0 blocks xs → AreRows B blocks e rows
 rows_are B blocks e xs rows h are = record { begins = xs; least = h; are = are }
 
 -- ---- the rows
 
-row_in : (B : Body) (k j : ℕ) (ss : List Stmt) (x : Lifted (List AbsVal)) (i : ℕ) → i ≤ length ss → value_or (slice_get (rows_from B k j ss x) i) ≡ after_body B k j (take i ss) x
+row_in : (B : Body) (k j : ℕ) (ss : List Stmt) (x : Lifted (List AbsVal)) (i : ℕ) → i ≤ length ss → value_or (slice_get (rows_from B k j ss x) i) ≡ after_statements (after_stmt B) k j (take i ss) x
 row_in B k j [] x zero l = refl
 row_in B k j [] x (suc i) l = absurd (omega (arith, l))
 row_in B k j (s ∷ ss) x zero l = refl
@@ -151,31 +148,31 @@ row_past B k j (s ∷ ss) x (suc i) l = row_past B k (j + 1) ss (where_reached x
 past : (i n : ℕ) → nat_le i n ≡ false → n < i
 past i n h = grind (arith, nat_tests, h)
 
-row_of_block : (B : Body) (k : ℕ) (ss : List Stmt) (x : Lifted (List AbsVal)) (i : ℕ) → value_or (slice_get (rows_from B k 0 ss x) i) ≡ cond (nat_le i (length ss)) (after_body B k 0 (take i ss) x) NotReached
+row_of_block : (B : Body) (k : ℕ) (ss : List Stmt) (x : Lifted (List AbsVal)) (i : ℕ) → value_or (slice_get (rows_from B k 0 ss x) i) ≡ cond (nat_le i (length ss)) (after_statements (after_stmt B) k 0 (take i ss) x) NotReached
 row_of_block B k ss x i = by (nat_le i (length ss)) refl
   where
-    by : (b : Bool) → nat_le i (length ss) ≡ b → value_or (slice_get (rows_from B k 0 ss x) i) ≡ cond b (after_body B k 0 (take i ss) x) NotReached
+    by : (b : Bool) → nat_le i (length ss) ≡ b → value_or (slice_get (rows_from B k 0 ss x) i) ≡ cond b (after_statements (after_stmt B) k 0 (take i ss) x) NotReached
     by true e = row_in B k 0 ss x i (leb-true i (length ss) e)
     by false e = row_past B k 0 ss x i (past i (length ss) e)
 
 row_of : (B : Body) (j : ℕ) (bs : List Block) (xs : List (Lifted (List AbsVal))) → length xs ≡ length bs → (k i : ℕ) →
-    found_row (block_rows B j bs xs) k i ≡ cond (is_index (slice_get bs k) i) (after_body B (j + k) 0 (take i (body_at (slice_get bs k))) (value_or (slice_get xs k))) NotReached
+    found_row (block_rows B j bs xs) k i ≡ cond (is_index (slice_get bs k) i) (after_statements (after_stmt B) (j + k) 0 (take i (body_at (slice_get bs k))) (value_or (slice_get xs k))) NotReached
 row_of B j [] xs e k i = refl
 row_of B j (b ∷ bs) [] e k i = absurd (omega (arith, e))
 row_of B j (b ∷ bs) (x ∷ xs) e zero i =
     let z : j ≡ j + 0 = omega arith in
-    row_of_block B j b.body x i ∙ ap (λ (m : ℕ). cond (nat_le i (length b.body)) (after_body B m 0 (take i b.body) x) NotReached) z
+    row_of_block B j b.body x i ∙ ap (λ (m : ℕ). cond (nat_le i (length b.body)) (after_statements (after_stmt B) m 0 (take i b.body) x) NotReached) z
 row_of B j (b ∷ bs) (x ∷ xs) e (suc k) i =
     let z : (j + 1) + k ≡ j + suc k = omega arith in
     row_of B (j + 1) bs xs (omega (arith, e)) k i
-    ∙ ap (λ (m : ℕ). cond (is_index (slice_get bs k) i) (after_body B m 0 (take i (body_at (slice_get bs k))) (value_or (slice_get xs k))) NotReached) z
+    ∙ ap (λ (m : ℕ). cond (is_index (slice_get bs k) i) (after_statements (after_stmt B) m 0 (take i (body_at (slice_get bs k))) (value_or (slice_get xs k))) NotReached) z
 
 row_at_point : (B : Body) (bs : List Block) (xs : List (Lifted (List AbsVal))) → length xs ≡ length bs → (k i : ℕ) → found_row (block_rows B 0 bs xs) k i ≡ point_row B bs xs k i
-unfolding values_at
+unfolding point_value
 row_at_point B bs xs e k i =
     let z : 0 + k ≡ k = omega arith in
     row_of B 0 bs xs e k i
-    ∙ ap (λ (m : ℕ). cond (is_index (slice_get bs k) i) (after_body B m 0 (take i (body_at (slice_get bs k))) (value_or (slice_get xs k))) NotReached) z
+    ∙ ap (λ (m : ℕ). cond (is_index (slice_get bs k) i) (after_statements (after_stmt B) m 0 (take i (body_at (slice_get bs k))) (value_or (slice_get xs k))) NotReached) z
 
 -- ---- the values
 

@@ -48,9 +48,11 @@ use Rattle.value_domain.proofs.OperatorLaws.{any_is}
 use Rattle.value_domain.proofs.AloneLaws.{alone_holds, alone_fits}
 use Rattle.value_domain.proofs.MeetLaws.{meet_holds_all, meet_fits_all}
 use Rattle.value_domain.proofs.RefineLaws.{refine_holds, refine_fits}
+use Rattle.block_flow.specs.Branches.{labels_of}
+use Rattle.block_flow.specs.Steps.{where_reached}
 use Rattle.body_values.specs.declared.facts.Facts.{Facts}
-use Rattle.body_values.specs.Bodies.{Body, register_scalar, put_value, operand_value, sides_scalar, may_compare, where_reached, turned, register_of, left_sides, after_compare, without_cases, case_left, after_switch, after_end}
-use Rattle.body_values.specs.Flow.{body_of, labels_of}
+use Rattle.body_values.specs.Bodies.{Body, register_scalar, put_value, operand_value, sides_scalar, may_compare, turned, register_of, left_sides, after_compare, without_cases, case_left, after_switch, after_end}
+use Rattle.body_values.specs.Flow.{body_of}
 use Rattle.body_values.specs.Rows.{RowFits}
 use Rattle.body_values.specs.Rising.{LoadsFit, may_compare_is, turned_may}
 use Rattle.gimple_claims.proofs.TypedValues.{int_is}

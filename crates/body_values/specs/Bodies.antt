@@ -1,5 +1,5 @@
 -- What the values of registers are, at a point and after it.
-use Rattle.std.specs.Prelude.{ℕ, ◌+◌, ◌==◌, ◌&&◌, ◌||◌, not, ℤ, pos, Bool, true, false, if◌then◌else◌, List, [], ◌∷◌, Option, Some, None, slice_get, slice_set, position, find}
+use Rattle.std.specs.Prelude.{ℕ, ◌==◌, ◌&&◌, ◌||◌, not, ℤ, pos, Bool, true, false, if◌then◌else◌, List, [], ◌∷◌, Option, Some, None, slice_get, slice_set, position, find}
 use Rattle.std.specs.List.{position_or_len, list_any}
 use Rattle.gimple_ir.specs.declared.scalar.Scalar.{Scalar}
 use Rattle.gimple_ir.specs.declared.scalar.Scalar.TheVariants.{I64, Ptr}
@@ -30,6 +30,7 @@ use Rattle.gimple_core.specs.State.{offset_in}
 use Rattle.gimple_core.specs.Statements.{is_pointer, is_shift, is_add, is_slot_at}
 use Rattle.fix_engine.specs.declared.lifted.Lifted.{Lifted}
 use Rattle.fix_engine.specs.declared.lifted.Lifted.TheVariants.{NotReached, Reached}
+use Rattle.block_flow.specs.Steps.{where_reached}
 use Rattle.value_domain.specs.declared.abs_val.AbsVal.{AbsVal}
 use Rattle.value_domain.specs.RangeOperators.{opposite}
 use Rattle.value_domain.specs.AbsOperators.{top_of, abs_op_of, abs_cmp_of, abs_convert_of, abs_met, refined_of, brought_into}
@@ -215,15 +216,6 @@ after_target B k i x row (Some to) = put_value B.registers row to (result_value 
 -- the values after a statement; `abort` ends reaching
 unfoldable pub after_stmt : Body → ℕ → ℕ → Stmt → List AbsVal → Lifted (List AbsVal)
 after_stmt B k i x row = if is_abort x then NotReached else after_target B k i x row (target_of x)
-
-abbrev pub where_reached : Lifted (List AbsVal) → (List AbsVal → Lifted (List AbsVal)) → Lifted (List AbsVal)
-where_reached NotReached f = NotReached
-where_reached (Reached row) f = f row
-
--- the values after statements, of a block from an index on
-abbrev pub after_body : Body → ℕ → ℕ → List Stmt → Lifted (List AbsVal) → Lifted (List AbsVal)
-after_body B k i [] x = x
-after_body B k i (s ∷ ss) x = after_body B k (i + 1) ss (where_reached x (after_stmt B k i s))
 
 -- ---- ends
 

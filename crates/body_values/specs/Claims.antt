@@ -9,7 +9,7 @@ use Rattle.gimple_core.specs.Trace.{Event, Entry, At, Load, Store, Leave, InEach
 use Rattle.gimple_core.specs.Accepted.{first_fault}
 use Rattle.gimple_claims.specs.Bodies.{Facts as Given, Meets, FactsClaim}
 use Rattle.fix_engine.specs.declared.lifted.Lifted.{Lifted}
-use Rattle.fix_engine.specs.declared.lifted.Lifted.TheVariants.{NotReached, Reached}
+use Rattle.block_flow.specs.Runs.{ReachedWith}
 use Rattle.value_domain.specs.declared.abs_val.AbsVal.{AbsVal}
 use Rattle.value_domain.specs.Holding.{Holds}
 use Rattle.value_domain.specs.Thresholds.{Limits, IsLawful}
@@ -27,8 +27,7 @@ RowHolds (a ∷ row) (v ∷ vs) = Holds v a × RowHolds row vs
 
 -- the point is reached, and so they do
 abbrev pub FileHolds : Lifted (List AbsVal) → List Value → Type 0
-FileHolds NotReached values = ⊥
-FileHolds (Reached row) values = RowHolds row values
+FileHolds x values = ReachedWith (λ row. RowHolds row values) x
 
 -- each argument is in its formal's fact; a formal without an argument is zero or null
 abbrev pub FormalsMeet : List Register → List AbsVal → List Value → ℕ → Type 0
@@ -57,7 +56,7 @@ PointsHold p n f facts most ts xs past (Load c scalar object offset v) = Unit {0
 PointsHold p n f facts most ts xs past (Store c scalar object offset v) = Unit {0}
 PointsHold p n f facts most ts xs past (Leave serial) = Unit {0}
 
--- a solution of the system of a function of a program without a type fault, for facts that fit
+-- a solution of the equations of a function of a program without a type fault, for facts that fit
 pub record Analysed (p : Sealed) (n : ℕ) (f : Function) (facts : Facts) (most : ℕ) (ts : List ℤ) (xs : List (Lifted (List AbsVal))) : Type 0 where
   pub accepted : first_fault p.program ≡ None
   pub lawful : IsLawful ts

@@ -12,7 +12,8 @@ use Rattle.value_domain.specs.declared.abs_val.AbsVal.{AbsVal}
 use Rattle.value_domain.specs.Thresholds.{Limits}
 use Rattle.body_values.specs.declared.facts.Facts.{Facts}
 use Rattle.body_values.specs.Bodies.{Body, place_of}
-use Rattle.body_values.specs.Flow.{body_of, AreValues, value_or, values_at}
+use Rattle.block_flow.specs.System.{value_or}
+use Rattle.body_values.specs.Flow.{body_of, AreValues, values_at}
 
 -- of the function of this number
 abbrev pub OfFunction : Program → ℕ → (Function → Type 0) → Type 0

@@ -15,3 +15,5 @@ pub mod Setting
 pub mod Tabled
 pub mod FoundWhere
 pub mod TopFacts
+pub mod TopRuns
+pub mod AtPoints

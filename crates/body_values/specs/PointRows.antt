@@ -4,7 +4,8 @@ use Rattle.gimple_ir.specs.declared.block.Block.{Block}
 use Rattle.gimple_ir.specs.declared.statement.Stmt.{Stmt}
 use Rattle.fix_engine.specs.declared.lifted.Lifted.{Lifted}
 use Rattle.value_domain.specs.declared.abs_val.AbsVal.{AbsVal}
-use Rattle.body_values.specs.Bodies.{Body, where_reached, after_stmt}
+use Rattle.block_flow.specs.Steps.{where_reached}
+use Rattle.body_values.specs.Bodies.{Body, after_stmt}
 
 -- the values before each statement from an index on, and at the end
 abbrev pub rows_from : Body → ℕ → ℕ → List Stmt → Lifted (List AbsVal) → List (Lifted (List AbsVal))

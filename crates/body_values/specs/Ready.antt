@@ -1,22 +1,20 @@
--- What a flow of values carries as facts, and what follows.
-use Rattle.std.specs.Prelude.{◌≡◌, ℕ, ◌<◌, ◌^◌, ℤ, Bool, true, ◌&&◌, List, [], ◌∷◌, length, slice_get, Some}
+-- What the analysis of a body carries as facts, and what follows.
+use Rattle.std.specs.Prelude.{◌≡◌, ℕ, ◌<◌, ◌^◌, ℤ, Bool, true, ◌&&◌, List, [], ◌∷◌, length}
 use Rattle.std.proofs.Common.{sym, subst}
-use Rattle.gimple_ir.specs.declared.block.Block.{Block}
 use Rattle.fix_engine.specs.Bools.{and_left, and_right}
 use Rattle.fix_engine.specs.Rows.{Each, FitsRows, rows_below}
-use Rattle.fix_engine.specs.Lifted.{FitsLifted, lifted_below}
-use Rattle.fix_engine.specs.Least.{FlowLaws}
 use Rattle.fix_engine.specs.declared.lifted.Lifted.{Lifted}
+use Rattle.block_flow.specs.Steps.{StepsLaws}
 use Rattle.value_domain.specs.declared.abs_val.AbsVal.{AbsVal}
 use Rattle.value_domain.specs.Values.{FitsWith, FitsAbsVal, abs_val_below, kind_of}
 use Rattle.value_domain.specs.Thresholds.{IsLawful, thresholds_list}
 use Rattle.value_domain.proofs.LawfulLemmas.{list_lawful}
 use Rattle.body_values.specs.declared.facts.LoadFact.{LoadFact}
 use Rattle.body_values.specs.declared.scene.Scene.{Scene}
-use Rattle.body_values.specs.Flow.{equations_of}
-use Rattle.body_values.specs.System.{given_fits, flow_laws}
+use Rattle.body_values.specs.Flow.{steps_of}
+use Rattle.body_values.specs.System.{given_fits, row_from, steps_laws}
 use Rattle.body_values.specs.Fitting.{fits_by, fits_is, file_by, file_is}
-use Rattle.body_values.specs.Scenes.{body_in, HasSmallGlobals, IsReady}
+use Rattle.body_values.specs.Scenes.{body_in, Fit, HasSmallGlobals, IsReady}
 
 -- whether what is given of loads fits
 abbrev pub loads_by : ℕ → List ℤ → List LoadFact → Bool
@@ -44,12 +42,10 @@ ready_of s c = record {
   loads = λ k i. given_fits (FitsWith s.limits.now.size s.limits.now.ends) s.loads.now.facts s.loads.now.function k i (loads_are s.limits.now.size s.limits.now.ends s.loads.now.facts c.loads);
 }
 
-pub carried_laws : (s : Scene) (blocks : List Block) (entry : Lifted (List AbsVal)) → Carried s → file_by s.limits.now.size s.limits.now.ends (length s.registers.now) entry ≡ true →
-    FlowLaws (FitsLifted (FitsRows FitsAbsVal) (length s.registers.now ∷ kind_of s.limits.now.size s.limits.now.ends)) (lifted_below (rows_below abs_val_below)) (equations_of (body_in s) blocks entry)
-carried_laws s blocks entry c h = flow_laws (body_in s) (lawful_of s c) (ready_of s c).loads blocks entry (file_is s.limits.now.size s.limits.now.ends (length s.registers.now) entry h)
+pub carried_laws : (s : Scene) (entry : Lifted (List AbsVal)) → Carried s → file_by s.limits.now.size s.limits.now.ends (length s.registers.now) entry ≡ true →
+    StepsLaws (FitsRows FitsAbsVal) (rows_below abs_val_below) (length s.registers.now ∷ kind_of s.limits.now.size s.limits.now.ends) (steps_of (body_in s) entry)
+carried_laws s entry c h = steps_laws (body_in s) (lawful_of s c) (ready_of s c).loads entry (file_is s.limits.now.size s.limits.now.ends (length s.registers.now) entry h)
 
--- blocks, their statements and branches have numbers
-pub record AreFew (blocks : List Block) (branches : ℕ) : Type 0 where
-  pub blocks_few : length blocks < 2 ^ 32
-  pub branches_few : branches < 2 ^ 32
-  pub bodies_few : (k : ℕ) (b : Block) → slice_get blocks k ≡ Some b → length b.body < 2 ^ 32
+-- a value that fits the kind of the analysis
+pub row_in : (s : Scene) (row : List AbsVal) → Carried s → FitsRows FitsAbsVal (length s.registers.now ∷ kind_of s.limits.now.size s.limits.now.ends) row → Fit s row
+row_in s row c h = row_from s.limits.now.size s.limits.now.ends (length s.registers.now) row (lawful_of s c) h

@@ -1,5 +1,5 @@
 -- The values after statements and ends fit, and rise with the values before them.
-use Rattle.std.specs.Prelude.{◌≡◌, ℕ, ◌+◌, ◌==◌, ◌&&◌, ◌||◌, ◌⊎◌, not, ℤ, Bool, true, false, cond, List, [], ◌∷◌, length, Option, Some, None, IfSome, slice_get, slice_set, find, refl}
+use Rattle.std.specs.Prelude.{◌≡◌, ℕ, ◌==◌, ◌&&◌, ◌||◌, ◌⊎◌, not, ℤ, Bool, true, false, cond, List, [], ◌∷◌, length, Option, Some, None, IfSome, slice_get, slice_set, find, refl}
 use Rattle.std.proofs.Common.{inl, inr, sym, ◌∙◌}
 use Rattle.gimple_ir.specs.declared.scalar.Scalar.{Scalar}
 use Rattle.gimple_ir.specs.declared.scalar.Scalar.TheVariants.{I64}
@@ -43,7 +43,8 @@ use Rattle.value_domain.proofs.AbsLaws.{op_fits, op_rises, cmp_fits, cmp_rises_a
 use Rattle.value_domain.proofs.MeetLaws.{meet_fits_all}
 use Rattle.value_domain.proofs.RefineLaws.{refine_fits}
 use Rattle.value_domain.proofs.RiseLaws.{meet_rises, refine_rises}
-use Rattle.body_values.specs.Bodies.{Body, place_of, register_scalar, put_value, brought_or, is_local, global_place, global_value, operand_value, count_scalar, right_scalar, is_lawful, arith_value, sides_scalar, may_compare, compare_value, source_scalar, convert_value, item_constant, constant_value, slot_place, slot_value, constant_slot, item_value, first_value, load_value, target_of, result_value, is_abort, after_target, after_stmt, where_reached, after_body, turned, register_of, left_sides, after_compare, without_cases, case_left, switch_left, after_switch, after_end}
+use Rattle.block_flow.specs.Steps.{where_reached}
+use Rattle.body_values.specs.Bodies.{Body, place_of, register_scalar, put_value, brought_or, is_local, global_place, global_value, operand_value, count_scalar, right_scalar, is_lawful, arith_value, sides_scalar, may_compare, compare_value, source_scalar, convert_value, item_constant, constant_value, slot_place, slot_value, constant_slot, item_value, first_value, load_value, target_of, result_value, is_abort, after_target, after_stmt, turned, register_of, left_sides, after_compare, without_cases, case_left, switch_left, after_switch, after_end}
 use Rattle.body_values.specs.Rows.{RowFits, LiftedFits, row_below, reached_below, get_fits, set_fits, set_count, OptionBelow, get_below, set_below, below_self, none_above}
 
 -- ---- which operators there are
@@ -334,12 +335,6 @@ module _ (B : Body) (law : IsLawful B.ends) where
         each_self : (xs : List AbsVal) → Each Fits xs → row_below xs xs ≡ true
         each_self [] g = refl
         each_self (x ∷ xs) g = both (abs_val_below x x) (row_below xs xs) (below_self B.most B.ends x g.0) (each_self xs g.1)
-
-    pub body_rises : (k i : ℕ) (ss : List Stmt) (x y : Lifted (List AbsVal)) → FilesRise B x y → FilesRise B (after_body B k i ss x) (after_body B k i ss y)
-    body_rises k i [] x y h = h
-    body_rises k i (s ∷ ss) x y h =
-        body_rises k (i + 1) ss (where_reached x (after_stmt B k i s)) (where_reached y (after_stmt B k i s))
-        (where_rises x y (after_stmt B k i s) (after_stmt B k i s) h (λ a b r. stmt_rises k i s a b r) (λ b f. (stmt_rises k i s b b (self b f)).upper))
 
     -- ---- ends
 

@@ -11,16 +11,16 @@ use Rattle.gimple_core.specs.Sealed.{Sealed}
 use Rattle.gimple_core.specs.Accepted.{IsAccepted}
 use Rattle.gimple_ir.specs.Size.{size_of_function}
 use Rattle.fix_engine.specs.declared.lifted.Lifted.{Lifted}
-use Rattle.fix_engine.specs.Lifted.{FitsLifted, lifted_below}
 use Rattle.fix_engine.specs.Rows.{FitsRows, rows_below}
-use Rattle.fix_engine.specs.Least.{IsLeast}
+use Rattle.block_flow.specs.Branches.{branches_of}
+use Rattle.block_flow.specs.System.{AreBegins as AreLeast}
 use Rattle.value_domain.specs.declared.abs_val.AbsVal.{AbsVal}
 use Rattle.value_domain.specs.Values.{FitsAbsVal, abs_val_below, kind_of}
 use Rattle.value_domain.specs.Thresholds.{Limits, thresholds_list}
 use Rattle.body_values.specs.declared.facts.Facts.{Facts}
 use Rattle.body_values.specs.declared.scene.Scene.{Scene}
 use Rattle.body_values.specs.Bodies.{Body}
-use Rattle.body_values.specs.Flow.{branches_of, equations_of}
+use Rattle.body_values.specs.Flow.{steps_of}
 use Rattle.body_values.specs.Found.{Found, AreFound}
 use Rattle.body_values.specs.GivenLoads.{GivenLoads}
 use Rattle.body_values.specs.PointRows.{block_rows}
@@ -55,9 +55,9 @@ pub record IsSceneOf (s : Scene) (p : Sealed) (n : ℕ) (f : Function) (facts : 
   pub loads : s.loads.now ≡ record { facts = facts.loads; function = n }
   pub thresholds : s.limits.now ≡ limits
 
--- the least solution of the system of a body
+-- the least solution of the equations of a body
 abbrev pub AreBegins : Body → List Block → Lifted (List AbsVal) → List (Lifted (List AbsVal)) → Type 0
-AreBegins B blocks entry xs = IsLeast (FitsLifted (FitsRows FitsAbsVal) (length B.registers ∷ kind_of B.most B.ends)) (lifted_below (rows_below abs_val_below)) (equations_of B blocks entry) xs
+AreBegins B blocks entry xs = AreLeast (FitsRows FitsAbsVal) (rows_below abs_val_below) (length B.registers ∷ kind_of B.most B.ends) (steps_of B entry) blocks xs
 
 -- the values at each index of each block, by the least solution
 pub record AreRows (B : Body) (blocks : List Block) (entry : Lifted (List AbsVal)) (rows : List (List (Lifted (List AbsVal)))) : Type 0 where

@@ -5,17 +5,18 @@ ghost use Rattle.std.specs.List.{list_any};
 ghost use Rattle.std.specs.Option.{option_copied};
 ghost use Rattle.body_values.specs.Changed.{changed, rows_by, value_after, value_through, is_end, reached_through};
 ghost use Rattle.body_values.specs.declared.block_values.Change.TheVariants.{Sets};
-ghost use Rattle.body_values.specs.Flow.{value_or};
+ghost use Rattle.block_flow.specs.System.{value_or};
 ghost use Rattle.body_values.specs.Found.{value_of};
 ghost use Rattle.body_values.specs.FoundWhere.{is_reached};
 
-use fix_engine::{Lattice, Lifted, Rows};
+use crate::value_row::{SharedVal, ValueRow};
+use fix_engine::{Lattice, Lifted};
 use gimple_core::{Listed, OutOfMemory};
 use std::marker::Model;
 use value_domain::AbsVal;
 
 /// The values of all registers of a function at a point, the formals first, or that the point is not reached.
-pub type PointRow = Lifted<Rows<AbsVal>>;
+pub type PointRow = Lifted<ValueRow>;
 
 /// What a statement changes in the values of registers.
 #[derive(Drop)]
@@ -23,13 +24,13 @@ pub(crate) enum Change {
     /// No value.
     Nothing,
     /// The value of the register of this number.
-    Sets { place: usize, value: AbsVal },
+    Sets { place: usize, value: SharedVal },
     /// The point behind the statement is not reached.
     Ends,
 }
 
 /// The values at the points of a block: those at its begin, and what each statement changes in those before it. So
-/// they take the memory of one row, and of one value a statement.
+/// they take the memory of one row of pointers, and of one value a statement.
 #[derive(Drop)]
 pub(crate) struct BlockValues {
     begin: PointRow,
@@ -64,7 +65,13 @@ fn value_after<'a>(
         Change::Sets {
             place: at,
             value: new,
-        } => { if *at == place { Some(new) } else { Some(old) } }
+        } => {
+            if *at == place {
+                Some(new.get())
+            } else {
+                Some(old)
+            }
+        }
         Change::Ends => None,
     }
 }
@@ -75,7 +82,7 @@ fn value_of(row: &PointRow, place: usize) -> Option<&AbsVal>
 {
     match row {
         Lifted::NotReached => None,
-        Lifted::Reached(values) => values.as_slice().get(place),
+        Lifted::Reached(values) => values.get(place),
     }
 }
 
@@ -117,14 +124,14 @@ fn reached_through(begin: &PointRow, changes: &[Change]) -> bool
 
 /// Puts a copy of a value in the place of the one at a number, where the point is reached and there is one. After Err
 /// nothing has changed.
-fn set_copy(row: &mut PointRow, place: usize, value: &AbsVal) -> Result<(), OutOfMemory>
+fn set_copy(row: &mut PointRow, place: usize, value: &SharedVal) -> Result<(), OutOfMemory>
     ensures ok { OnOk result (row.new ≡ changed row.old (Sets place value.now)) }
     ensures err { OnErr result (row.new ≡ row.old) }
 {
     let Lifted::Reached(values) = row else {
         return Ok(());
     };
-    if place < values.as_slice().len() {
+    if place < values.len() {
         values.set(place, value.copy()?);
     }
     Ok(())

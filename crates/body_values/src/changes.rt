@@ -5,13 +5,14 @@ ghost use Rattle.std.specs.Option.{option_copied};
 ghost use Rattle.fix_engine.specs.declared.lifted.Lifted.{Lifted};
 ghost use Rattle.fix_engine.specs.declared.lifted.Lifted.TheVariants.{NotReached, Reached};
 ghost use Rattle.value_domain.specs.Values.{is_none_val};
-ghost use Rattle.body_values.specs.Bodies.{register_scalar, put_value, brought_or, global_place, address_constant, item_constant, constant_value, slot_place, slot_value, constant_slot, item_value, load_value, target_of, result_value, is_abort, after_target, after_stmt, after_body};
+ghost use Rattle.body_values.specs.Bodies.{register_scalar, put_value, brought_or, global_place, address_constant, item_constant, constant_value, slot_place, slot_value, constant_slot, item_value, load_value, target_of, result_value, is_abort, after_target, after_stmt};
 ghost use Rattle.body_values.specs.Flow.{given_load};
 ghost use Rattle.body_values.specs.Scenes.{body_in, Fit, IsGoodIn, IsReady};
 ghost use Rattle.gimple_core.specs.Layout.{layout_of};
 
 use crate::scene::{Scene, offset_of, pointer, scalar_of};
-use fix_engine::Rows;
+use crate::shared::Shared;
+use crate::value_row::ValueRow;
 use gimple_core::{
     Base, Constant, Global as Variable, Operand, OutOfMemory, Place, Point, Scalar, Stmt, Text,
 };
@@ -198,7 +199,7 @@ impl<'a> Scene<'a> {
         &self,
         block: u32,
         index: u32,
-        row: &[AbsVal],
+        row: &ValueRow,
         scalar: Scalar,
         statement: &Stmt,
     ) -> Result<AbsVal, OutOfMemory>
@@ -234,19 +235,19 @@ impl<'a> Scene<'a> {
         }
     }
 
-    /// Gives a register a value, and says whether the next point is reached.
+    /// Gives a register a value, and says whether the next point is reached. Err is want of memory.
     #[tactic(auto, using(crate::proofs::Written::set_past))]
-    pub fn put(&self, row: &mut Rows<AbsVal>, name: &Text, value: AbsVal) -> bool
-        ensures { MatchBool result (put_value self.now.registers.now row.old name.now value ≡ Reached row.new) (put_value self.now.registers.now row.old name.now value ≡ NotReached) }
+    pub fn put(&self, row: &mut ValueRow, name: &Text, value: AbsVal) -> Result<bool, OutOfMemory>
+        ensures { IfOk result (λ more. MatchBool more (put_value self.now.registers.now row.old name.now value ≡ Reached row.new) (put_value self.now.registers.now row.old name.now value ≡ NotReached)) }
     {
         if value.range.high < value.range.low {
-            return false;
+            return Ok(false);
         }
         let place = self.registers.place(name);
-        if place < row.as_slice().len() {
-            row.set(place, value);
+        if place < row.len() {
+            row.set(place, Shared::new(self.alloc, value)?);
         }
-        true
+        Ok(true)
     }
 
     /// Carries the values through a statement, and says whether the next point is reached.
@@ -256,7 +257,7 @@ impl<'a> Scene<'a> {
         block: u32,
         index: u32,
         statement: &Stmt,
-        row: &mut Rows<AbsVal>,
+        row: &mut ValueRow,
     ) -> Result<bool, OutOfMemory>
         requires ready { IsReady self.now }
         requires fit { Fit self.now row.old }
@@ -269,8 +270,8 @@ impl<'a> Scene<'a> {
             return Ok(true);
         };
         let scalar = scalar_of(self.registers, to);
-        let value = self.result(block, index, row.as_slice(), scalar, statement)?;
-        Ok(self.put(row, to, value))
+        let value = self.result(block, index, row, scalar, statement)?;
+        self.put(row, to, value)
     }
 
     /// Carries the values through a statement, and says whether the next point is reached.
@@ -280,7 +281,7 @@ impl<'a> Scene<'a> {
         block: u32,
         index: u32,
         statement: &Stmt,
-        row: &mut Rows<AbsVal>,
+        row: &mut ValueRow,
     ) -> Result<bool, OutOfMemory>
         requires ready { IsReady self.now }
         requires fit { Fit self.now row.old }

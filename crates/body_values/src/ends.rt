@@ -1,4 +1,4 @@
-//! The values behind the statements of a block, and behind a branch of its end.
+//! The values behind a branch of the end of a block.
 
 ghost use Rattle.std.specs.Prelude.{◌≡◌, ◌<◌, ◌^◌, length, IfOk, slice_get, Option, Some, None, OnOk};
 ghost use Rattle.std.specs.Option.{option_copied};
@@ -8,13 +8,15 @@ ghost use Rattle.value_domain.specs.Holding.{MayCompare};
 ghost use Rattle.value_domain.specs.AbsOperators.{exactly_of};
 ghost use Rattle.value_domain.specs.RangeOperators.{opposite};
 ghost use Rattle.value_domain.specs.AbsOperators.{abs_met, refined_of};
-ghost use Rattle.body_values.specs.Bodies.{register_scalar, put_value, both_put, turned, register_of, left_sides, after_compare, without_cases, case_left, switch_left, after_switch, after_end, after_body, sides_scalar};
-ghost use Rattle.body_values.specs.Scenes.{body_in, Fit, FitsIn, IsGoodIn, IsReady};
+ghost use Rattle.body_values.specs.Bodies.{register_scalar, put_value, both_put, turned, register_of, left_sides, after_compare, without_cases, case_left, switch_left, after_switch, after_end, sides_scalar};
+ghost use Rattle.body_values.specs.Scenes.{body_in, Fit, IsGoodIn, IsReady};
 
+use crate::block_values::PointRow;
 use crate::scene::{Scene, scalar_of};
 use crate::transfer::comparable;
-use fix_engine::{Lattice, Lifted, Rows};
-use gimple_core::{Case, Cmp, Constant, End, Operand, OutOfMemory, Scalar, Stmt, Text, same_name};
+use crate::value_row::ValueRow;
+use fix_engine::{Lattice, Lifted};
+use gimple_core::{Case, Cmp, Constant, End, Operand, OutOfMemory, Scalar, Text, same_name};
 use value_domain::{AbsVal, exactly, meet, refine};
 
 fn turn(cmp: Cmp) -> Cmp
@@ -53,38 +55,15 @@ fn register(operand: &Operand) -> Option<&Text>
 }
 
 impl<'a> Scene<'a> {
-    /// The values behind the statements of a block.
-    #[tactic(auto, using(crate::proofs::Refined::gone))]
-    pub fn carry(
-        &self,
-        block: u32,
-        body: &[Stmt],
-        start: &Rows<AbsVal>,
-    ) -> Result<Lifted<Rows<AbsVal>>, OutOfMemory>
-        requires ready { IsReady self.now }
-        requires fit { Fit self.now start.now }
-        requires few { length body.now < 2 ^ 32 }
-        ensures after { IfOk result (λ x. x ≡ after_body (body_in self.now) block 0 body.now (Reached start.now)) }
-        ensures fit { IfOk result (FitsIn self.now) }
-    {
-        let mut row = start.copy()?;
-        for index in 0..body.len() {
-            if !self.after(block, index as u32, &body[index], &mut row)? {
-                return Ok(Lifted::NotReached);
-            }
-        }
-        Ok(Lifted::Reached(row))
-    }
-
     /// The values after a register got one.
-    fn given_to(&self, row: Rows<AbsVal>, name: &Text, value: AbsVal) -> Lifted<Rows<AbsVal>>
-        ensures { result ≡ put_value self.now.registers.now row name.now value }
+    fn given_to(&self, row: ValueRow, name: &Text, value: AbsVal) -> Result<PointRow, OutOfMemory>
+        ensures { IfOk result (λ x. x ≡ put_value self.now.registers.now row name.now value) }
     {
         let mut row = row;
-        if self.put(&mut row, name, value) {
-            Lifted::Reached(row)
+        if self.put(&mut row, name, value)? {
+            Ok(Lifted::Reached(row))
         } else {
-            Lifted::NotReached
+            Ok(Lifted::NotReached)
         }
     }
 
@@ -136,22 +115,22 @@ impl<'a> Scene<'a> {
     fn on_both(
         &self,
         scalar: Scalar,
-        row: Rows<AbsVal>,
+        row: ValueRow,
         left: &Text,
         right: &Text,
         first: AbsVal,
         second: AbsVal,
-    ) -> Result<Lifted<Rows<AbsVal>>, OutOfMemory>
+    ) -> Result<PointRow, OutOfMemory>
         requires first { IsGoodIn self.now scalar first }
         requires second { IsGoodIn self.now scalar second }
         ensures { IfOk result (λ x. x ≡ both_put self.now.registers.now row left.now right.now first second) }
     {
         if same_name(left, right) {
             let value = self.both(scalar, &first, &second)?;
-            return Ok(self.given_to(row, left, value));
+            return self.given_to(row, left, value);
         }
-        match self.given_to(row, left, first) {
-            Lifted::Reached(row) => Ok(self.given_to(row, right, second)),
+        match self.given_to(row, left, first)? {
+            Lifted::Reached(row) => self.given_to(row, right, second),
             Lifted::NotReached => Ok(Lifted::NotReached),
         }
     }
@@ -163,8 +142,8 @@ impl<'a> Scene<'a> {
         cmp: Cmp,
         left: &Operand,
         right: &Operand,
-        row: Rows<AbsVal>,
-    ) -> Result<Lifted<Rows<AbsVal>>, OutOfMemory>
+        row: ValueRow,
+    ) -> Result<PointRow, OutOfMemory>
         requires ready { IsReady self.now }
         requires fit { Fit self.now row }
         ensures { IfOk result (λ x. x ≡ after_compare (body_in self.now) (sides_scalar (body_in self.now) left.now right.now) cmp left.now right.now row) }
@@ -173,8 +152,8 @@ impl<'a> Scene<'a> {
         if !comparable(cmp, scalar) {
             return Ok(Lifted::Reached(row));
         }
-        let first = self.operand(row.as_slice(), scalar, left)?;
-        let second = self.operand(row.as_slice(), scalar, right)?;
+        let first = self.operand(&row, scalar, left)?;
+        let second = self.operand(&row, scalar, right)?;
         match (left, right) {
             (Operand::Reg(m), Operand::Reg(n)) => {
                 let of_left = self.left_of(cmp, scalar, &first, &second)?;
@@ -183,11 +162,11 @@ impl<'a> Scene<'a> {
             }
             (Operand::Reg(m), _) => {
                 let value = self.left_of(cmp, scalar, &first, &second)?;
-                Ok(self.given_to(row, m, value))
+                self.given_to(row, m, value)
             }
             (_, Operand::Reg(n)) => {
                 let value = self.left_of(turn(cmp), scalar, &second, &first)?;
-                Ok(self.given_to(row, n, value))
+                self.given_to(row, n, value)
             }
             (_, _) => Ok(Lifted::Reached(row)),
         }
@@ -244,8 +223,8 @@ impl<'a> Scene<'a> {
         on: &Operand,
         cases: &[Case],
         slot: u32,
-        row: Rows<AbsVal>,
-    ) -> Result<Lifted<Rows<AbsVal>>, OutOfMemory>
+        row: ValueRow,
+    ) -> Result<PointRow, OutOfMemory>
         requires ready { IsReady self.now }
         requires fit { Fit self.now row }
         ensures { IfOk result (λ x. x ≡ after_switch (body_in self.now) on.now cases.now (slice_get cases.now slot) row) }
@@ -253,9 +232,9 @@ impl<'a> Scene<'a> {
         match on {
             Operand::Reg(name) => {
                 let scalar = scalar_of(self.registers, name);
-                let value = self.operand(row.as_slice(), scalar, on)?;
+                let value = self.operand(&row, scalar, on)?;
                 let left = self.case_of(scalar, &value, cases, slot)?;
-                Ok(self.given_to(row, name, left))
+                self.given_to(row, name, left)
             }
             _ => Ok(Lifted::Reached(row)),
         }
@@ -263,12 +242,7 @@ impl<'a> Scene<'a> {
 
     /// The values behind a branch of an end, by its number there.
     #[tactic(auto, unfolding(crate::specs::Bodies::after_end))]
-    pub fn leave(
-        &self,
-        end: &End,
-        slot: u32,
-        row: Rows<AbsVal>,
-    ) -> Result<Lifted<Rows<AbsVal>>, OutOfMemory>
+    pub fn leave(&self, end: &End, slot: u32, row: ValueRow) -> Result<PointRow, OutOfMemory>
         requires ready { IsReady self.now }
         requires fit { Fit self.now row }
         ensures { IfOk result (λ x. x ≡ after_end (body_in self.now) end.now slot row) }

@@ -5,8 +5,11 @@ ghost use Rattle.std.specs.List.{list_any};
 ghost use Rattle.value_domain.specs.Values.{is_none_val};
 ghost use Rattle.body_values.specs.Flow.{zero_constant, zero_value, entry_row};
 
+use crate::block_values::PointRow;
 use crate::scene::pointer;
-use fix_engine::{Lattice, Lifted, Rows};
+use crate::shared::Shared;
+use crate::value_row::{SharedVal, ValueRow};
+use fix_engine::{Lattice, Lifted};
 use gimple_core::{Constant, Exact, Function, OutOfMemory, Register};
 use name_tables::RegisterTable;
 use std::alloc::Global;
@@ -34,12 +37,13 @@ fn zero(alloc: Global, register: &Register, limits: &Thresholds) -> Result<AbsVa
     exactly(alloc, register.scalar, Constant::Int(0), limits)
 }
 
-fn copies(alloc: Global, values: &[AbsVal]) -> Result<Vec<AbsVal>, OutOfMemory>
+fn copies(alloc: Global, values: &[AbsVal]) -> Result<Vec<SharedVal>, OutOfMemory>
     ensures { IfOk result (λ v. v.items ≡ values.now) }
 {
     let mut row = Vec::new(alloc);
     for at in 0..values.len() {
-        row.push(values[at].copy()?)?;
+        let value = values[at].copy()?;
+        row.push(Shared::new(alloc, value)?)?;
     }
     Ok(row)
 }
@@ -48,12 +52,13 @@ fn put_zeros(
     alloc: Global,
     registers: &[Register],
     limits: &Thresholds,
-    row: &mut Vec<AbsVal>,
+    row: &mut Vec<SharedVal>,
 ) -> Result<(), OutOfMemory>
     ensures { OnOk result (row.new.items ≡ row.old.items ++ map (zero_value limits.now.size limits.now.ends) registers.now) }
 {
     for at in 0..registers.len() {
-        row.push(zero(alloc, &registers[at], limits)?)?;
+        let value = zero(alloc, &registers[at], limits)?;
+        row.push(Shared::new(alloc, value)?)?;
     }
     Ok(())
 }
@@ -65,7 +70,7 @@ pub fn entry_row(
     function: &Function,
     formals: &[AbsVal],
     limits: &Thresholds,
-) -> Result<Lifted<Rows<AbsVal>>, OutOfMemory>
+) -> Result<PointRow, OutOfMemory>
     ensures { IfOk result (λ x. x ≡ entry_row function.now formals.now limits.now.size limits.now.ends) }
 {
     if any_none(formals) {
@@ -73,7 +78,7 @@ pub fn entry_row(
     }
     let mut row = copies(alloc, formals)?;
     put_zeros(alloc, function.registers.as_slice(), limits, &mut row)?;
-    Ok(Lifted::Reached(Rows::new(row)))
+    Ok(Lifted::Reached(ValueRow::new(row)))
 }
 
 fn put_copies(registers: &[Register], table: &mut RegisterTable) -> Result<(), OutOfMemory>

@@ -2,29 +2,30 @@
 
 ghost use Rattle.std.specs.Prelude.{◌≡◌, ◌<◌, ◌^◌, length, IfOk, OnOk};
 ghost use Rattle.fix_engine.specs.Rows.{Each};
-ghost use Rattle.body_values.specs.Bodies.{target_of, where_reached, after_stmt};
+ghost use Rattle.block_flow.specs.Steps.{where_reached};
+ghost use Rattle.block_flow.specs.System.{AreFew};
+ghost use Rattle.body_values.specs.Bodies.{target_of, after_stmt};
 ghost use Rattle.body_values.specs.Changed.{changed, change_of, rows_by};
 ghost use Rattle.body_values.specs.Scenes.{body_in, FitsIn, IsReady};
-ghost use Rattle.body_values.specs.Ready.{AreFew};
 ghost use Rattle.body_values.specs.PointRows.{rows_from, block_rows};
 
 use crate::block_values::{BlockValues, Change, PointRow};
 use crate::changes::target;
 use crate::scene::Scene;
+use crate::value_row::ValueRow;
 use fix_engine::{Lattice, Lifted};
 use gimple_core::{Block, Listed, OutOfMemory, Stmt};
-use value_domain::AbsVal;
 
 impl<'a> Scene<'a> {
     /// What a statement behind which the next point is reached has changed, by the values there.
-    fn change_of(&self, statement: &Stmt, row: &[AbsVal]) -> Result<Change, OutOfMemory>
+    fn change_of(&self, statement: &Stmt, row: &ValueRow) -> Result<Change, OutOfMemory>
         ensures { IfOk result (λ c. c ≡ change_of self.now.registers.now (target_of statement.now) row.now) }
     {
         let Some(to) = target(statement) else {
             return Ok(Change::Nothing);
         };
         let place = self.registers.place(to);
-        match row.get(place) {
+        match row.shared(place) {
             Some(value) => Ok(Change::Sets {
                 place,
                 value: value.copy()?,
@@ -51,7 +52,7 @@ impl<'a> Scene<'a> {
             return Ok(Change::Ends);
         };
         if self.after(block, index, statement, values)? {
-            let change = self.change_of(statement, values.as_slice())?;
+            let change = self.change_of(statement, values)?;
             return Ok(change);
         }
         *row = Lifted::NotReached;

@@ -1,6 +1,6 @@
 //! What is found in a program again and again, in tables.
 
-ghost use Rattle.std.specs.Prelude.{◌≡◌, IfOk, find};
+ghost use Rattle.std.specs.Prelude.{◌≡◌, IfOk, find, position};
 ghost use Rattle.std.specs.Option.{option_copied};
 ghost use Rattle.std.specs.Str.{bytes_eq};
 ghost use Rattle.gimple_core.specs.Accepted.{IsAccepted};
@@ -101,12 +101,19 @@ impl<'a> ProgramTables<'a> {
     }
 
     /// A copy of the thresholds. Err is want of memory.
-    pub(crate) fn thresholds(&self) -> Result<Thresholds, OutOfMemory>
+    pub fn thresholds(&self) -> Result<Thresholds, OutOfMemory>
         ensures size { IfOk result (λ t. t.size ≡ self.now.size) }
         ensures ends { IfOk result (λ t. t.ends ≡ thresholds_list self.now.program.program) }
     {
         let copy = self.limits.copy()?;
         Ok(copy)
+    }
+
+    /// The number of the first function of a name; None exactly where no function has it.
+    pub fn function_place(&self, name: &Text) -> Option<usize>
+        ensures { result ≡ position (λ f. bytes_eq f.name name.now) self.now.program.program.functions }
+    {
+        self.functions.place(name)
     }
 
     /// The first function of a name; None exactly where no function has it.

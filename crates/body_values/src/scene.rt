@@ -6,8 +6,10 @@ ghost use Rattle.gimple_core.specs.State.{offset_in};
 ghost use Rattle.gimple_core.specs.Statements.{is_pointer};
 ghost use Rattle.body_values.specs.Bodies.{register_scalar, global_place, global_value, operand_value};
 ghost use Rattle.body_values.specs.Scenes.{body_in, Fit, IsGoodIn};
+ghost use Rattle.body_values.specs.Setting.{IsSceneBy};
 
 use crate::load_table::LoadTable;
+use crate::value_row::ValueRow;
 use gimple_core::{Checked, Constant, Operand, OutOfMemory, Scalar, Text, fits};
 use name_tables::{NamedGlobals, NamedLocals, RegisterTable};
 use std::alloc::Global;
@@ -64,6 +66,31 @@ pub fn offset_of(offset: i128) -> i64
     inside(offset) as i64
 }
 
+/// A scene of these parts.
+pub fn scene_of<'a>(
+    program: &'a Checked,
+    structs: &'a Structs<'a>,
+    globals: &'a NamedGlobals<'a>,
+    locals: &'a NamedLocals<'a>,
+    registers: &'a RegisterTable,
+    loads: &'a LoadTable<'a>,
+    limits: &'a Thresholds,
+    alloc: Global,
+) -> Scene<'a>
+    ensures { IsSceneBy result program.now structs.now globals.now locals.now registers.now loads.now limits.now }
+{
+    Scene {
+        program,
+        structs,
+        globals,
+        locals,
+        registers,
+        loads,
+        limits,
+        alloc,
+    }
+}
+
 impl<'a> Scene<'a> {
     fn address(&self, scalar: Scalar, variable: &Text, offset: i128) -> Result<AbsVal, OutOfMemory>
         requires few { length self.now.globals.now < 2 ^ 32 }
@@ -87,7 +114,7 @@ impl<'a> Scene<'a> {
     #[tactic(auto, unfolding(crate::specs::Bodies::operand_value))]
     pub fn register(
         &self,
-        row: &[AbsVal],
+        row: &ValueRow,
         scalar: Scalar,
         name: &Text,
     ) -> Result<AbsVal, OutOfMemory>
@@ -102,7 +129,7 @@ impl<'a> Scene<'a> {
     #[tactic(auto, unfolding(crate::specs::Bodies::operand_value))]
     fn value_of(
         &self,
-        row: &[AbsVal],
+        row: &ValueRow,
         scalar: Scalar,
         operand: &Operand,
     ) -> Result<AbsVal, OutOfMemory>
@@ -128,7 +155,7 @@ impl<'a> Scene<'a> {
     #[tactic(auto, using(crate::proofs::Written::good_value))]
     pub fn operand(
         &self,
-        row: &[AbsVal],
+        row: &ValueRow,
         scalar: Scalar,
         operand: &Operand,
     ) -> Result<AbsVal, OutOfMemory>

@@ -10,6 +10,7 @@ ghost use Rattle.body_values.specs.Bodies.{count_scalar, right_scalar, is_lawful
 ghost use Rattle.body_values.specs.Scenes.{body_in, Fit};
 
 use crate::scene::{Scene, pointer, scalar_of};
+use crate::value_row::ValueRow;
 use gimple_core::{Cmp, Op, Operand, OutOfMemory, Scalar};
 use value_domain::{AbsVal, abs_cmp, abs_convert, abs_op, top};
 
@@ -106,7 +107,7 @@ impl<'a> Scene<'a> {
     #[tactic(auto, unfolding(crate::specs::Bodies::arith_value))]
     pub fn arithmetic(
         &self,
-        row: &[AbsVal],
+        row: &ValueRow,
         scalar: Scalar,
         left: &Operand,
         op: Op,
@@ -139,7 +140,7 @@ impl<'a> Scene<'a> {
     #[tactic(auto, unfolding(crate::specs::Bodies::compare_value))]
     pub fn comparison(
         &self,
-        row: &[AbsVal],
+        row: &ValueRow,
         target: Scalar,
         left: &Operand,
         cmp: Cmp,
@@ -173,7 +174,7 @@ impl<'a> Scene<'a> {
     #[tactic(auto, unfolding(crate::specs::Bodies::convert_value))]
     pub fn conversion(
         &self,
-        row: &[AbsVal],
+        row: &ValueRow,
         target: Scalar,
         from: &Operand,
     ) -> Result<AbsVal, OutOfMemory>

@@ -3,25 +3,25 @@
 ghost use Rattle.std.specs.Prelude.{◌≡◌, ◌+◌, ◌<◌, ◌^◌, length, true, IfOk, OnOk, OnErr};
 ghost use Rattle.std.specs.Option.{option_copied};
 ghost use Rattle.gimple_ir.specs.Size.{size_of_program, branches_of_function};
+ghost use Rattle.block_flow.specs.Branches.{branches_of};
+ghost use Rattle.block_flow.specs.System.{AreFew};
 ghost use Rattle.value_domain.specs.Thresholds.{thresholds_list};
 ghost use Rattle.body_values.specs.Fitting.{file_by};
-ghost use Rattle.body_values.specs.Flow.{branches_of};
 ghost use Rattle.body_values.specs.Found.{OfFunction, AreFound, found_at, found_row, value_of};
 ghost use Rattle.body_values.specs.FoundWhere.{is_reached, reached_at};
-ghost use Rattle.body_values.specs.Ready.{Carried, AreFew};
+ghost use Rattle.body_values.specs.Ready.{Carried};
 ghost use Rattle.body_values.specs.Scenes.{body_in};
-ghost use Rattle.body_values.specs.Setting.{IsGiven, IsSceneBy, AreBegins, AreRows, WereFound};
+ghost use Rattle.body_values.specs.Setting.{IsGiven, AreBegins, AreRows, WereFound};
 ghost use Rattle.body_values.specs.System.{FactsFit};
 
+use crate::analysis::ValueAnalysis;
 use crate::block_values::{BlockValues, PointRow};
-use crate::branching::branches_of;
 use crate::entry::{entry_row, registers_of};
 use crate::facts::Facts;
-use crate::flow::ValueFlow;
 use crate::load_table::LoadTable;
 use crate::program_tables::ProgramTables;
-use crate::scene::Scene;
-use fix_engine::{Lifted, Rows, Solver};
+use crate::scene::{Scene, scene_of};
+use fix_engine::{Lifted, Solver};
 use gimple_core::{Block, Checked, Function, Listed, OutOfMemory, Params, Point, Text};
 use name_tables::{NamedGlobals, NamedLocals, RegisterTable};
 use std::alloc::Global;
@@ -30,7 +30,7 @@ use struct_tables::Structs;
 use value_domain::{AbsVal, Thresholds};
 
 /// The values of a function's registers at each of its points, and the thresholds that they were made with. They take
-/// the memory of one row a block and one value a statement; an answer goes through the statements before its point.
+/// the memory of one row of pointers a block and one value a statement; an answer goes through the statements before its point.
 #[derive(Drop)]
 pub struct BodyValues {
     function: u32,
@@ -151,27 +151,19 @@ impl BodyValues {
 }
 
 /// The values at the begin of each block: the least solution.
-#[tactic(auto, using(crate::proofs::Settled::few_as))]
 fn begins<'a, S: Solver>(
     scene: Scene<'a>,
     blocks: &'a [Block],
-    entry: &'a Lifted<Rows<AbsVal>>,
+    entry: &'a PointRow,
     solver: &mut S,
-) -> Result<Vec<Lifted<Rows<AbsVal>>>, OutOfMemory>
+) -> Result<Vec<PointRow>, OutOfMemory>
     requires carried { Carried scene }
     requires few { AreFew blocks.now (length (branches_of blocks.now)) }
     requires entry { file_by scene.limits.now.size scene.limits.now.ends (length scene.registers.now) entry.now ≡ true }
     ensures { IfOk result (λ v. AreBegins (body_in scene.entry) blocks.now entry.now v.items) }
 {
-    let branches = branches_of(scene.alloc, blocks)?;
-    let flow = ValueFlow {
-        scene,
-        blocks,
-        branches: branches.as_slice(),
-        entry,
-    };
-    let found = solver.solve(scene.alloc, &flow)?;
-    Ok(found.into_vec())
+    let analysis = ValueAnalysis { scene, entry };
+    block_flow::begins(scene.alloc, &analysis, blocks, solver)
 }
 
 /// The values at each index of each block.
@@ -179,7 +171,7 @@ fn begins<'a, S: Solver>(
 fn rows_of<'a, S: Solver>(
     scene: Scene<'a>,
     blocks: &'a [Block],
-    entry: &'a Lifted<Rows<AbsVal>>,
+    entry: &'a PointRow,
     solver: &mut S,
 ) -> Result<Listed<BlockValues>, OutOfMemory>
     requires carried { Carried scene }
@@ -190,30 +182,6 @@ fn rows_of<'a, S: Solver>(
     let begins = begins(scene, blocks, entry, solver)?;
     let rows = scene.rows(blocks, begins)?;
     Ok(rows)
-}
-
-fn scene_of<'a>(
-    program: &'a Checked,
-    structs: &'a Structs<'a>,
-    globals: &'a NamedGlobals<'a>,
-    locals: &'a NamedLocals<'a>,
-    registers: &'a RegisterTable,
-    loads: &'a LoadTable<'a>,
-    limits: &'a Thresholds,
-    alloc: Global,
-) -> Scene<'a>
-    ensures { IsSceneBy result program.now structs.now globals.now locals.now registers.now loads.now limits.now }
-{
-    Scene {
-        program,
-        structs,
-        globals,
-        locals,
-        registers,
-        loads,
-        limits,
-        alloc,
-    }
 }
 
 fn values_with<S: Solver>(

@@ -1,8 +1,9 @@
 use Rattle.std.proofs.Common.{◌≡◌, ◌∙◌, List, length, ap, sym, subst}
 use Rattle.gimple_ir.specs.declared.block.Block.{Block}
+use Rattle.block_flow.specs.Branches.{branches_of}
+use Rattle.block_flow.specs.System.{AreFew}
 use Rattle.value_domain.specs.declared.abs_val.AbsVal.{AbsVal}
-use Rattle.body_values.specs.Flow.{entry_row, branches_of}
-use Rattle.body_values.specs.Ready.{AreFew}
+use Rattle.body_values.specs.Flow.{entry_row}
 use Rattle.body_values.specs.Setting.{IsSceneOf}
 use Rattle.body_values.proofs.Settled.{scene_is, carried_of, entry_passes, are_few, found_of}
 use Rattle.body_values.proofs.values.values_with.Goals as goal

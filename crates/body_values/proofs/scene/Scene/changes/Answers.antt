@@ -1,5 +1,6 @@
 use Rattle.std.proofs.Common.{rules, ◌≡◌, ◌<◌, ◌≤◌, ◌++◌, ◌∷◌, [], length}
-use Rattle.body_values.specs.Bodies.{where_reached, after_stmt}
+use Rattle.block_flow.specs.Steps.{where_reached}
+use Rattle.body_values.specs.Bodies.{after_stmt}
 use Rattle.body_values.specs.Changed.{changed}
 use Rattle.body_values.specs.Scenes.{body_in, FitsIn}
 use Rattle.body_values.proofs.ByChanges.{more_changes, all_changes}

@@ -1,0 +1,9 @@
+pub mod BranchCounts
+pub mod Solved
+pub mod Holding
+pub mod Flowing
+pub mod Exits
+pub mod Staying
+pub mod PointLemmas
+pub mod Whole
+pub mod Numbers

@@ -1,0 +1,11 @@
+pub mod Written
+pub mod Offsets
+pub mod Standing
+pub mod Statements
+pub mod Holding
+pub mod Changes
+pub mod Parts
+pub mod FoundWhere
+pub mod Tabled
+pub mod Jumping
+pub mod FoundHolding

@@ -1,0 +1,13 @@
+pub mod Order
+pub mod OrderLaws
+pub mod Bodies
+pub mod BodiesLaws
+pub mod Scenes
+pub mod Claims
+pub mod Found
+pub mod Parts
+pub mod FoundWhere
+pub mod Jumps
+pub mod Tables
+pub mod JumpClaims
+pub mod FoundClaims

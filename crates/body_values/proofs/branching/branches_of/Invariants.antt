@@ -1,6 +1,0 @@
-use Rattle.std.proofs.Common.{◌≡◌, ◌++◌, drop}
-use Rattle.body_values.specs.Flow.{branches_from}
-use Rattle.body_values.proofs.branching.branches_of.Given as goal
-
-abbrev pub invariant-loop-source : goal.invariant-loop-source
-invariant-loop-source l = l.found.items ++ branches_from l.blocks l.source (drop l.source l.blocks) ≡ branches_from l.blocks 0 l.blocks
