@@ -18,7 +18,7 @@ use Rattle.gimple_core.specs.State.{Control, Frame, State, scope_of, setting_of}
 use Rattle.gimple_core.specs.Run.{Did, Exit, ToLabel, Returns, exit_of, step, given, function_named, first_memory, no_memory, main_name, begun, begun_by}
 use Rattle.gimple_core.specs.Trace.{Event}
 use Rattle.gimple_core.specs.Env.{functions_by_name}
-use Rattle.gimple_core.specs.Reach.{operands_of, operands_of_end, TakesAddress, AddressedIn, IsAddressed}
+use Rattle.gimple_core.specs.Reach.{operands_of, operands_of_end, IsAddressed}
 use Rattle.gimple_core.specs.Typed.{FunctionsTyped, env_of}
 use Rattle.gimple_core.specs.Accepted.{first_fault}
 use Rattle.gimple_core.proofs.FunctionValues.{ValueIn, OperandsIn, WorldIn, ActedIn, put_at_in, first_in, values_of_in, registers_made_in, with_locals_in, with_globals_in, without_frame_in, act_in, arguments_of_call}
@@ -29,27 +29,10 @@ use Rattle.gimple_claims.proofs.Callees.{called_own}
 use Rattle.gimple_claims.proofs.Comes.{Comes, InDid, holds}
 use Rattle.gimple_claims.proofs.KnownAddresses.{AddressesKnown, BlockKnown, blocks_known, address_function, item_names}
 use Rattle.gimple_claims.proofs.Lists.{all_found}
+use Rattle.gimple_claims.proofs.Taken.{Taken, BodyTaken, BlockTaken, blocks_taken}
 use Rattle.gimple_claims.proofs.Steps.{Steps, acts, calls, jumps, leaves, stops, traps, step_is}
 
 -- ---- the addresses in a function of the program
-
-abbrev AddressesTaken : Program → List Operand → Type 0
-AddressesTaken p xs = (name : List ℕ) → TakesAddress name xs → IsAddressed p name
-
-record BlockTaken (p : Program) (b : Block) : Type 0 where
-  body : AllByRecursion (λ (x : Stmt). AddressesTaken p (operands_of x)) b.body
-  end : AddressesTaken p (operands_of_end b.end)
-
-body_taken : (p : Program) (xs : List Stmt) → ((x : Stmt) → Contains xs x → AddressesTaken p (operands_of x)) → AllByRecursion (λ (x : Stmt). AddressesTaken p (operands_of x)) xs
-body_taken p [] h = tt
-body_taken p (x ∷ xs) h = (h x (0, omega arith, refl), body_taken p xs (λ y c. h y (suc c.0, (let lt : c.0 < length xs = c.1 in omega (arith, lt)), c.2)))
-
-blocks_taken : (p : Program) (bs : List Block) → ((name : List ℕ) → AddressedIn name bs → IsAddressed p name) → AllByRecursion (BlockTaken p) bs
-blocks_taken p [] h = tt
-blocks_taken p (b ∷ bs) h = (
-  record { body = body_taken p b.body (λ x c name t. h name (AddressedIn.body b bs x c t)); end = λ name t. h name (AddressedIn.end b bs t) },
-  blocks_taken p bs (λ name a. h name (AddressedIn.later b bs a)),
-)
 
 contains_first : (f g : Function) (fs : List Function) (o : Option Function) → f ≡ g → Contains (f ∷ fs) g
 contains_first f g fs o e = (0, omega arith, e)
@@ -85,11 +68,11 @@ module _ (p : Program) where
 
   -- the code of a frame: its addresses are taken in the program, and known
   record InCode (c : Control) : Type 0 where
-    taken : AllByRecursion (λ (x : Stmt). AddressesTaken p (operands_of x)) c.rest
+    taken : BodyTaken (IsAddressed p) c.rest
     known : AllByRecursion (λ (x : Stmt). AddressesKnown (env_of p c.function) (operands_of x)) c.rest
-    end_taken : AddressesTaken p (operands_of_end c.end)
+    end_taken : Taken (IsAddressed p) (operands_of_end c.end)
     end_known : AddressesKnown (env_of p c.function) (operands_of_end c.end)
-    blocks_are_taken : AllByRecursion (BlockTaken p) c.function.blocks
+    blocks_are_taken : AllByRecursion (BlockTaken (IsAddressed p)) c.function.blocks
     blocks_are_known : AllByRecursion (BlockKnown (env_of p c.function)) c.function.blocks
 
   record FrameIn (f : Frame) : Type 0 where
@@ -101,7 +84,7 @@ module _ (p : Program) where
     below : AllByRecursion FrameIn s.below
     world : WorldIn Named s.world
 
-  operands_in : (c : Control) (xs : List Operand) → AddressesTaken p xs → AddressesKnown (env_of p c.function) xs → OperandsIn Named p.globals (scope_of c) xs
+  operands_in : (c : Control) (xs : List Operand) → Taken (IsAddressed p) xs → AddressesKnown (env_of p c.function) xs → OperandsIn Named p.globals (scope_of c) xs
   operands_in c xs taken known name t e = (address_function p c.function (scope_of c) name refl (known name t) e, taken name t)
 
   abbrev ExitIn : Exit → Type 0
@@ -123,21 +106,21 @@ module _ (p : Sealed) (accepted : first_fault p.program ≡ None) where
   entered : (name : List ℕ) (g : Function) (b : Block) (bs : List Block) (serial : ℕ) (takes : Option ℕ) → function_named name p.program.functions ≡ Some g → g.blocks ≡ b ∷ bs →
       InCode p.program (record { function = g; block = 0; index = 0; rest = b.body; end = b.end; serial = serial; takes = takes })
   entered name g b bs serial takes e f =
-      let taken : AllByRecursion (BlockTaken p.program) g.blocks = blocks_taken p.program g.blocks (λ other a. IsAddressed.body g (named_contained name p.program.functions g e) a) in
+      let taken : AllByRecursion (BlockTaken (IsAddressed p.program)) g.blocks = blocks_taken (IsAddressed p.program) g.blocks (λ other a. IsAddressed.body g (named_contained name p.program.functions g e) a) in
       let known : AllByRecursion (BlockKnown (env_of p.program g)) g.blocks = named_known p.program accepted name g e in
-      let first : AllByRecursion (BlockTaken p.program) (b ∷ bs) = subst (AllByRecursion (BlockTaken p.program)) f taken in
+      let first : AllByRecursion (BlockTaken (IsAddressed p.program)) (b ∷ bs) = subst (AllByRecursion (BlockTaken (IsAddressed p.program))) f taken in
       let second : AllByRecursion (BlockKnown (env_of p.program g)) (b ∷ bs) = subst (AllByRecursion (BlockKnown (env_of p.program g))) f known in
       record { taken = first.0.body; known = second.0.body; end_taken = first.0.end; end_known = second.0.end; blocks_are_taken = taken; blocks_are_known = known }
 
   -- the frame with one statement less to do
   record Next (s : State) (x : Stmt) (xs : List Stmt) : Type 0 where
     operands : OperandsIn (Named p.program) p.program.globals (scope_of s.top) (operands_of x)
-    taken : AllByRecursion (λ (y : Stmt). AddressesTaken p.program (operands_of y)) xs
+    taken : BodyTaken (IsAddressed p.program) xs
     known : AllByRecursion (λ (y : Stmt). AddressesKnown (env_of p.program s.top.function) (operands_of y)) xs
 
   next : (s : State) (x : Stmt) (xs : List Stmt) → InCode p.program s.top → s.top.rest ≡ x ∷ xs → Next s x xs
   next s x xs h e =
-      let taken : AllByRecursion (λ (y : Stmt). AddressesTaken p.program (operands_of y)) (x ∷ xs) = subst (AllByRecursion (λ (y : Stmt). AddressesTaken p.program (operands_of y))) e h.taken in
+      let taken : BodyTaken (IsAddressed p.program) (x ∷ xs) = subst (BodyTaken (IsAddressed p.program)) e h.taken in
       let known : AllByRecursion (λ (y : Stmt). AddressesKnown (env_of p.program s.top.function) (operands_of y)) (x ∷ xs) = subst (AllByRecursion (λ (y : Stmt). AddressesKnown (env_of p.program s.top.function) (operands_of y))) e h.known in
       record { operands = operands_in p.program s.top (operands_of x) taken.0 known.0; taken = taken.1; known = known.1 }
 
@@ -167,7 +150,7 @@ module _ (p : Sealed) (accepted : first_fault p.program ≡ None) where
         };
       }
   in_did s h _ (jumps label k b e x f) =
-      let taken = label_has (BlockTaken p.program) label k s.top.function.blocks b h.code.blocks_are_taken f in
+      let taken = label_has (BlockTaken (IsAddressed p.program)) label k s.top.function.blocks b h.code.blocks_are_taken f in
       let known = label_has (BlockKnown (env_of p.program s.top.function)) label k s.top.function.blocks b h.code.blocks_are_known f in
       record {
         code = record { taken = taken.body; known = known.body; end_taken = taken.end; end_known = known.end; blocks_are_taken = h.code.blocks_are_taken; blocks_are_known = h.code.blocks_are_known };

@@ -8,7 +8,7 @@ use Rattle.gimple_core.specs.Sealed.{Sealed}
 use Rattle.gimple_core.specs.State.{State, scope_of, value_in}
 use Rattle.gimple_core.specs.Run.{Callee, Named, Through, function_named, has_signature, called_by_name, called_with, called_through, called_function, step, Moves, Reaches, CallEntry}
 use Rattle.gimple_core.specs.Trace.{Event, told, after}
-use Rattle.gimple_claims.specs.Instances.{Instances, instance, CalleesAlike}
+use Rattle.gimple_claims.proofs.Specialised.{Instances, instance, CalleesAlike}
 use Rattle.gimple_claims.proofs.Callees.{called_if}
 
 module _ (I : Instances) (Fits : List Event → ℕ → ℕ → Type 0) (p : Sealed) (past : List Event) (s : State) where

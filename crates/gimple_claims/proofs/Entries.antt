@@ -11,7 +11,7 @@ use Rattle.gimple_core.specs.Run.{step, stepped, Did, Reaches, Moves, CallEntry,
 use Rattle.gimple_core.specs.Trace.{Event, Entry, At, told, told_by, after}
 use Rattle.gimple_claims.specs.Runs.{Comes}
 use Rattle.gimple_claims.specs.Kept.{new_body}
-use Rattle.gimple_claims.specs.Instances.{Instances, instance, Specialises}
+use Rattle.gimple_claims.proofs.Specialised.{Instances, instance, Specialises}
 use Rattle.gimple_core.proofs.Simulation.{Does}
 use Rattle.gimple_claims.proofs.Activation.{told_call}
 use Rattle.gimple_claims.proofs.Instances.{scope_same, Alike, alike, instance_beside}

@@ -23,7 +23,7 @@ inner_each : (past es : List Event) → AllByRecursion IsInner es → EachAfter 
 inner_each past [] h = tt
 inner_each past (e ∷ es) h = (inner_new past e h.0, inner_each (e ∷ past) es h.1)
 
-mid_older : (p : Sealed) (past : List Event) (s : State) → Older past s → AllByRecursion (IsOlder s.next) (mid p past s)
+pub mid_older : (p : Sealed) (past : List Event) (s : State) → Older past s → AllByRecursion (IsOlder s.next) (mid p past s)
 mid_older p past s h =
     each_of_after (IsOlder s.next) (At s.top s.world ∷ past) (access p.program.globals s.top.rest s) (h.top, h.past_older)
     (access_all (IsOlder s.next) s (λ scalar f. h.top) (λ scalar f v. h.top) p.program.globals s.top.rest)

@@ -15,7 +15,7 @@ use Rattle.gimple_core.specs.Run.{step, stepped, start, compares, case_for, any_
 use Rattle.gimple_core.specs.Trace.{Event, main_entry, told, after}
 use Rattle.gimple_claims.specs.Runs.{Comes}
 use Rattle.gimple_claims.specs.Kept.{new_body}
-use Rattle.gimple_claims.specs.Instances.{Instances, instance, AreMade, BeginAlike, CalleesAlike, StandsFor, MainsAlike, Specialises}
+use Rattle.gimple_claims.proofs.Specialised.{Instances, instance, AreMade, BeginAlike, CalleesAlike, StandsFor, MainsAlike, Specialises}
 use Rattle.gimple_claims.proofs.Callees.{own_name, called_own}
 use Rattle.gimple_claims.proofs.Along.{StepsAlike, StartAlike, run_alike, Beside, beside}
 use Rattle.gimple_core.proofs.Simulation.{Matches, Does}

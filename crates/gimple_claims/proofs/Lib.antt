@@ -9,6 +9,7 @@ pub mod Points
 pub mod Files
 pub mod Kept
 pub mod Along
+pub mod Specialised
 pub mod Instances
 pub mod Entries
 pub mod Lists
@@ -32,6 +33,11 @@ pub mod Addressed
 pub mod Shapes
 pub mod Pointers
 pub mod Slots
+pub mod Once
+pub mod Updates
+pub mod Taken
+pub mod Private
+pub mod PrivateAccesses
 pub mod Variables
 pub mod TypedEvents
 pub mod Callings

@@ -1,5 +1,5 @@
 -- Pointers to locals are of frames that have begun.
-use Rattle.std.proofs.Common.{◌≡◌, ℕ, ◌+◌, ◌<◌, ◌≤◌, ℤ, arith, List, [], ◌∷◌, ◌++◌, refl, sym, ◌∙◌, ap, subst, Option, Some, None, All, IfSome}
+use Rattle.std.proofs.Common.{◌≡◌, ℕ, ◌+◌, ◌<◌, ◌≤◌, ℤ, arith, List, [], ◌∷◌, subst, Option, Some, None, All, IfSome}
 use Rattle.std.specs.List.{AllByRecursion}
 use Rattle.std.proofs.lemmas.List.Elements.{All-nil, All-weaker}
 use Rattle.gimple_ir.specs.declared.value.Value.{Value}
@@ -14,16 +14,12 @@ use Rattle.gimple_ir.specs.declared.block.End.TheVariants.{Goto, If, Switch, Ret
 use Rattle.gimple_ir.specs.declared.block.Block.{Block}
 use Rattle.gimple_ir.specs.declared.program.Function.{Function}
 use Rattle.gimple_core.specs.declared.machine.MemorySlot.{MemorySlot}
-use Rattle.gimple_core.specs.declared.machine.FoundSlot.{FoundSlot}
-use Rattle.gimple_ir.specs.declared.scalar.Scalar.{Scalar}
 use Rattle.gimple_core.specs.Sealed.{Sealed}
 use Rattle.gimple_core.specs.Memory.{Memory, moved_by}
-use Rattle.gimple_core.specs.State.{Control, Frame, World, State, Scope, setting_of, scope_of}
-use Rattle.gimple_core.specs.Run.{Calling, call_of, Did, local_address, global_address, address_of_global, address_of, values_of, given, Exit, ToLabel, Returns, exit_of, no_memory, first_memory, begun, begun_by, function_named, main_name, step, stepped, start}
-use Rattle.gimple_core.specs.Trace.{Event, Entry, At as AtPoint, Load, Store, Leave, after, access, crossing, arguments_at, told, told_by, main_entry, EachAfter, Trace}
-use Rattle.gimple_core.specs.Reach.{operands_of, operands_of_end}
+use Rattle.gimple_core.specs.State.{Frame, State, Scope, setting_of, scope_of}
+use Rattle.gimple_core.specs.Run.{Calling, call_of, Did, local_address, global_address, address_of_global, address_of, values_of, given, Exit, ToLabel, Returns, exit_of, no_memory, first_memory, begun, begun_by, function_named, main_name, step}
+use Rattle.gimple_core.specs.Trace.{Event, Entry, At as AtPoint, Load, Store, Leave, access, crossing, arguments_at, told_by, main_entry, EachAfter}
 use Rattle.gimple_core.proofs.ValuesIn.{IsOfAddresses, put_at_in, first_in, values_of_in, registers_made_in, with_locals_in, with_globals_in, without_frame_in, act_in, ActedIn, WorldIn}
-use Rattle.gimple_claims.specs.Runs.{Comes}
 use Rattle.gimple_claims.specs.Pointers.{IsOldObject, IsOldValue, IsOldMemory, HasOldPointers, PointersAreOld, EntryIsOld, EntriesGetOldPointers}
 use Rattle.gimple_claims.proofs.Comes.{InDid, AtEach, each_append, holds_with}
 use Rattle.gimple_claims.proofs.OneRun.{in_run}

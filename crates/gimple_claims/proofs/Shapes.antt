@@ -1,5 +1,5 @@
 -- The globals and the locals of the frames live, with the slots of their layouts.
-use Rattle.std.proofs.Common.{◌≡◌, ℕ, ◌+◌, ◌<◌, ◌==◌, ℤ, Bool, true, false, not, cond, arith, List, [], ◌∷◌, ◌++◌, map, refl, sym, ◌∙◌, ap, subst, Option, Some, None, filter, append_assoc, append-nil}
+use Rattle.std.proofs.Common.{◌≡◌, ℕ, ◌+◌, ◌<◌, ◌==◌, ℤ, Bool, true, false, cond, arith, List, [], ◌∷◌, ◌++◌, map, refl, sym, ◌∙◌, ap, subst, Option, Some, None, filter, append_assoc, append-nil}
 use Rattle.std.specs.List.{flat_map, AllByRecursion}
 use Rattle.std.proofs.lemmas.Bool.{eqb-true, eq-eqb}
 use Rattle.std.proofs.lemmas.List.{map-append}
@@ -18,11 +18,10 @@ use Rattle.gimple_core.specs.declared.machine.MemorySlot.{MemorySlot}
 use Rattle.gimple_core.specs.declared.machine.Extent.{Extent}
 use Rattle.gimple_core.specs.Sealed.{Sealed}
 use Rattle.gimple_core.specs.Layout.{layout_of}
-use Rattle.gimple_core.specs.Memory.{Memory, is_elsewhere, is_slot, put_slot, without_frame}
+use Rattle.gimple_core.specs.Memory.{Memory, is_elsewhere, is_slot, without_frame}
 use Rattle.gimple_core.specs.State.{Control, Frame, World, State, setting_of, scope_of}
 use Rattle.gimple_core.specs.Run.{Did, filled, item_value, with_object, with_globals, with_locals, no_memory, first_memory, begun, begun_by, function_named, main_name, step, start}
 use Rattle.gimple_core.specs.Trace.{Event, after, told, main_entry}
-use Rattle.gimple_core.proofs.NameLemmas.{same_name_true}
 use Rattle.gimple_claims.specs.Runs.{Comes}
 use Rattle.gimple_claims.specs.Shapes.{Variable, global_variables, local_variables, frame_variables, controls, variables_of, SlotKey, key_of, extent_of, keys_of, IsLaidOut, MemoryIsLaidOut}
 use Rattle.gimple_claims.proofs.Comes.{InDid, holds_with}

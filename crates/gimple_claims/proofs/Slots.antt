@@ -1,13 +1,12 @@
 -- What slots hold between two states of a run.
-use Rattle.std.proofs.Common.{◌≡◌, ℕ, ◌+◌, ◌==◌, ◌&&◌, ℤ, Bool, true, false, cond, List, [], ◌∷◌, ◌++◌, map, refl, sym, ◌∙◌, ap, subst, Option, Some, None, Result, Ok, Err, filter, if◌then◌else◌}
+use Rattle.std.proofs.Common.{◌≡◌, ℕ, ◌+◌, ◌==◌, ◌&&◌, ℤ, Bool, true, false, cond, List, [], ◌∷◌, ◌++◌, refl, sym, ◌∙◌, ap, subst, Option, Some, None, Result, Ok, Err, filter, if◌then◌else◌}
 use Rattle.std.specs.List.{find, AllByRecursion}
 use Rattle.std.specs.Option.{option_map}
 use Rattle.std.proofs.lemmas.Bool.{eqb-true}
 use Rattle.gimple_ir.specs.declared.scalar.Scalar.{Scalar}
-use Rattle.gimple_ir.specs.declared.scalar.Scalar.TheVariants.{I8, I16, I32, I64, U8, U16, U32, U64, Ptr}
 use Rattle.gimple_ir.specs.declared.value.Value.{Value}
 use Rattle.gimple_ir.specs.declared.value.Object.{Object}
-use Rattle.gimple_ir.specs.declared.value.Object.TheVariants.{Global as GlobalObject, Local as LocalObject}
+use Rattle.gimple_ir.specs.declared.value.Object.TheVariants.{Local as LocalObject}
 use Rattle.gimple_ir.specs.declared.value.LayoutSlot.{LayoutSlot}
 use Rattle.gimple_ir.specs.declared.value.TrapKind.{TrapKind}
 use Rattle.gimple_ir.specs.declared.declarations.Decl.{Decl}
@@ -21,16 +20,15 @@ use Rattle.gimple_core.specs.declared.machine.FoundSlot.{FoundSlot}
 use Rattle.gimple_core.specs.Names.{update_first}
 use Rattle.gimple_core.specs.Sealed.{Sealed}
 use Rattle.gimple_core.specs.Layout.{layout_of}
-use Rattle.gimple_core.specs.Memory.{Memory, same_object, same_scalar, is_slot, put_slot, is_elsewhere, without_frame, found_at}
-use Rattle.gimple_core.specs.State.{Control, Frame, World, State, Scope, Setting, setting_of, scope_of}
-use Rattle.gimple_core.specs.Run.{Did, Goes, Reaches, Moves, Stops, Traps, Transfer, filled, with_object, with_locals, value_of, place_value, assign_result, loaded, stored, got, act, step, stepped, resumed}
-use Rattle.gimple_core.specs.Trace.{Event, Entry, At, Load, Store, Leave, access, accesses, load_event, store_event, crossing, told, told_by}
+use Rattle.gimple_core.specs.Memory.{Memory, same_object, same_scalar, is_slot, put_slot, is_elsewhere, without_frame}
+use Rattle.gimple_core.specs.State.{Control, World, State, Scope, Setting, setting_of, scope_of}
+use Rattle.gimple_core.specs.Run.{Did, filled, with_object, with_locals, assign_result, loaded, stored, got, act, step}
+use Rattle.gimple_core.specs.Trace.{Event, access, accesses, store_event, told, told_by}
 use Rattle.gimple_core.proofs.Dropping.{first_kept}
 use Rattle.gimple_claims.specs.Runs.{Comes, Leads, none, goes_on as leads_goes, moves_on as leads_moves}
 use Rattle.gimple_claims.specs.Laws.{living_object}
-use Rattle.gimple_claims.specs.Slots.{slot_value, IsStoreTo, LeadsTelling, stays, goes_on, moves_on, SlotsKeepValues}
-use Rattle.gimple_claims.proofs.Comes.{InDid, InReached}
-use Rattle.gimple_claims.proofs.Lists.{found_test}
+use Rattle.gimple_claims.specs.Slots.{IsStoreTo, LeadsTelling, stays, goes_on, moves_on, SlotsKeepValues}
+use Rattle.gimple_claims.proofs.Comes.{InDid}
 use Rattle.gimple_claims.proofs.Globals.{same_object_true}
 use Rattle.gimple_core.proofs.ScalarLemmas.{same_scalar_true}
 use Rattle.gimple_claims.proofs.Dead.{Begun, begun, not_new, leads_to, from_did, dead_stay_dead}
@@ -96,7 +94,7 @@ module _ (object : Object) (offset : ℕ) (scalar : Scalar) where
       absurd (differs (sym h.object_is ∙ k.object_is, sym h.offset_is ∙ k.offset_is, sym h.scalar_is ∙ k.scalar_is))
   other_slot other place kind differs s e false f = refl
 
-  put_other : (other : Object) (place : ℕ) (kind : Scalar) (v : Value) (slots : List MemorySlot) → ((other ≡ object) × (place ≡ offset) × (kind ≡ scalar) → ⊥) → find test (put_slot slots other place kind v) ≡ find test slots
+  pub put_other : (other : Object) (place : ℕ) (kind : Scalar) (v : Value) (slots : List MemorySlot) → ((other ≡ object) × (place ≡ offset) × (kind ≡ scalar) → ⊥) → find test (put_slot slots other place kind v) ≡ find test slots
   put_other other place kind v slots differs =
       find_updated test (is_slot other place kind) (λ s. record s { value = v })
       (λ s e. let no_slot = other_slot other place kind differs s e (is_slot object offset scalar s) refl in (no_slot, no_slot)) slots

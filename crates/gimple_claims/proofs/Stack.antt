@@ -37,7 +37,7 @@ mid p past s = after (At s.top s.world ∷ past) (access p.program.globals s.top
 mid_live : (p : Sealed) (past : List Event) (ns : List ℕ) (s : State) → AreLive past ns → AreLive (mid p past s) ns
 mid_live p past ns s l = inner (At s.top s.world ∷ past) (access p.program.globals s.top.rest s) ns (access_all IsInner s (λ scalar f. tt) (λ scalar f v. tt) p.program.globals s.top.rest) l
 
-told_mid : (p : Sealed) (past : List Event) (s : State) → after past (told p s) ≡ after (mid p past s) (crossing p.program.globals s.top.rest s (step p s))
+pub told_mid : (p : Sealed) (past : List Event) (s : State) → after past (told p s) ≡ after (mid p past s) (crossing p.program.globals s.top.rest s (step p s))
 unfolding told_by
 told_mid p past s = after_append (At s.top s.world ∷ past) (access p.program.globals s.top.rest s) (crossing p.program.globals s.top.rest s (step p s))
 

@@ -1,9 +1,9 @@
 -- In each run of an accepted program the events tell values of their scalars.
-use Rattle.std.proofs.Common.{◌≡◌, ℕ, ℤ, Bool, true, false, not, List, [], ◌∷◌, ◌++◌, length, refl, sym, ◌∙◌, ap, subst, arith, Option, Some, None, Result, Ok, Err, if◌then◌else◌}
+use Rattle.std.proofs.Common.{◌≡◌, ℕ, ℤ, Bool, true, false, not, List, [], ◌∷◌, length, refl, sym, ◌∙◌, ap, subst, arith, Option, Some, None, Result, Ok, Err, if◌then◌else◌}
 use Rattle.std.specs.List.{AllByRecursion, list_all}
 use Rattle.std.proofs.lemmas.List.{length-map}
 use Rattle.gimple_ir.specs.declared.scalar.Scalar.{Scalar}
-use Rattle.gimple_ir.specs.declared.scalar.Scalar.TheVariants.{I32, I64}
+use Rattle.gimple_ir.specs.declared.scalar.Scalar.TheVariants.{I64}
 use Rattle.gimple_ir.specs.declared.declarations.Register.{Register}
 use Rattle.gimple_ir.specs.declared.declarations.Global.{Global}
 use Rattle.gimple_ir.specs.declared.operand.Operand.{Operand}
@@ -17,10 +17,9 @@ use Rattle.gimple_ir.specs.declared.program.Program.{Program}
 use Rattle.gimple_core.specs.declared.machine.FoundSlot.{FoundSlot}
 use Rattle.gimple_core.specs.Sealed.{Sealed}
 use Rattle.gimple_core.specs.Operators.{in_scalar}
-use Rattle.gimple_core.specs.Memory.{found_at}
 use Rattle.gimple_core.specs.State.{Control, State, Scope, scope_of, registers_of, is_of}
-use Rattle.gimple_core.specs.Run.{Calling, call_of, Did, step, start, value_of, values_of, place_value, first_memory, function_named, main_name, begun, begun_by}
-use Rattle.gimple_core.specs.Trace.{Event, Entry, At, Load, Store, Leave, EachAfter, Trace, after, load_event, store_event, accesses, access, arguments_at, crossing, told, told_by, main_entry}
+use Rattle.gimple_core.specs.Run.{Calling, call_of, Did, step, values_of, function_named, main_name, begun, begun_by}
+use Rattle.gimple_core.specs.Trace.{Event, At, Store, EachAfter, Trace, load_event, store_event, accesses, access, arguments_at, crossing, told_by}
 use Rattle.gimple_core.specs.Env.{functions_by_name}
 use Rattle.gimple_core.specs.Statements as s
 use Rattle.gimple_core.specs.Verdict.{demand}
@@ -28,7 +27,6 @@ use Rattle.gimple_core.specs.Accepted.{first_fault}
 use Rattle.gimple_core.specs.Typed.{MainTyped}
 use Rattle.gimple_core.proofs.Passed.{first_passed}
 use Rattle.gimple_core.proofs.ProgramTyped.{accepted_typed}
-use Rattle.gimple_claims.specs.Runs.{Comes}
 use Rattle.gimple_claims.specs.Checks.{env_of, StmtsPass}
 use Rattle.gimple_claims.specs.Typed.{registers_typed, frame_typed, slots_typed, EventTyped, EventsAreTyped}
 use Rattle.gimple_claims.proofs.Comes.{AtEach, each_append}

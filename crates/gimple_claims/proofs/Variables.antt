@@ -1,12 +1,10 @@
 -- Variables live, have the slots of their layouts, and accesses to these slots find them.
-use Rattle.std.proofs.Common.{◌≡◌, ℕ, zero, suc, ◌+◌, ◌<◌, ◌==◌, ◌&&◌, ◌||◌, ℤ, pos, Bool, true, false, arith, List, [], ◌∷◌, ◌++◌, map, length, refl, sym, ◌∙◌, ap, subst, Option, Some, None, Ok, All, nat_lt, if◌then◌else◌, slice_get, slice_index_or}
-use Rattle.std.specs.List.{find, list_any, flat_map, Contains, AllByRecursion}
+use Rattle.std.proofs.Common.{◌≡◌, ℕ, zero, suc, ◌+◌, ◌<◌, ◌==◌, ◌&&◌, ◌||◌, ℤ, pos, Bool, true, false, arith, List, [], ◌∷◌, ◌++◌, map, length, refl, sym, ◌∙◌, ap, subst, Some, None, All, nat_lt, if◌then◌else◌, slice_get, slice_index_or}
+use Rattle.std.specs.List.{find, list_any, flat_map, AllByRecursion}
 use Rattle.std.specs.Option.{option_or, option_map}
 use Rattle.std.proofs.lemmas.Bool.{eqb-true, eq-eqb, lt-ltb}
 use Rattle.std.proofs.lemmas.List.Elements.{All-head, All-tail}
 use Rattle.gimple_ir.specs.declared.scalar.Scalar.{Scalar}
-use Rattle.gimple_ir.specs.declared.value.Value.{Value}
-use Rattle.gimple_ir.specs.declared.value.Value.TheVariants.{At}
 use Rattle.gimple_ir.specs.declared.value.Object.{Object}
 use Rattle.gimple_ir.specs.declared.value.Object.TheVariants.{Global as GlobalObject, Local as LocalObject}
 use Rattle.gimple_ir.specs.declared.value.LayoutSlot.{LayoutSlot}
@@ -17,16 +15,13 @@ use Rattle.gimple_core.specs.declared.machine.Extent.{Extent}
 use Rattle.gimple_core.specs.declared.machine.MemorySlot.{MemorySlot}
 use Rattle.gimple_core.specs.Sealed.{Sealed}
 use Rattle.gimple_core.specs.Layout.{layout_of}
-use Rattle.gimple_core.specs.Memory.{Memory, same_object, same_scalar, is_slot, found_at, found_extent}
-use Rattle.gimple_core.specs.State.{Control, Frame, State}
+use Rattle.gimple_core.specs.Memory.{same_object, same_scalar, is_slot, found_at, found_extent}
+use Rattle.gimple_core.specs.State.{Control, State}
 use Rattle.gimple_core.specs.Statements.{is_slot_at, has_slot}
 use Rattle.gimple_core.specs.Trace.{Event}
 use Rattle.gimple_core.proofs.LayoutLemmas.{layout_is}
-use Rattle.gimple_core.proofs.ScalarLemmas.{same_scalar_true}
 use Rattle.gimple_claims.specs.Runs.{Comes}
-use Rattle.gimple_claims.specs.Laws.{living_object}
-use Rattle.gimple_claims.specs.Slots.{slot_value}
-use Rattle.gimple_claims.specs.Shapes.{Variable, global_variables, local_variables, frame_variables, controls, variables_of, SlotKey, key_of, extent_of, keys_of, IsLaidOut}
+use Rattle.gimple_claims.specs.Shapes.{Variable, global_variables, local_variables, frame_variables, controls, variables_of, SlotKey, key_of, extent_of, keys_of}
 use Rattle.gimple_claims.specs.Variables.{IsVariableOf, global, local, VariablesLive, VariablesHaveSlots, AccessesFindSlots}
 use Rattle.gimple_claims.proofs.Shapes.{Descends, frames_descend, memory_is_laid_out}
 

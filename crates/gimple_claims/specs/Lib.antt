@@ -1,7 +1,6 @@
 pub mod Runs
 pub mod Bodies
 pub mod Kept
-pub mod Instances
 pub mod Stack
 pub mod Laws
 pub mod Checks
@@ -10,4 +9,6 @@ pub mod Addressed
 pub mod Shapes
 pub mod Pointers
 pub mod Slots
+pub mod Updates
+pub mod Private
 pub mod Variables

@@ -1,5 +1,6 @@
 -- Which objects live in each state of a run, and which slots memory has.
-use Rattle.std.specs.Prelude.{◌≡◌, ℕ, ◌+◌, ℤ, Bool, true, false, List, [], ◌∷◌, ◌++◌, map, flat_map}
+use Rattle.std.specs.Prelude.{◌≡◌, ℕ, ◌+◌, ℤ, Bool, false, List, [], ◌∷◌, ◌++◌, map, flat_map}
+use Rattle.std.specs.List.{AllPairs}
 use Rattle.gimple_ir.specs.declared.scalar.Scalar.{Scalar}
 use Rattle.gimple_ir.specs.declared.value.Object.{Object}
 use Rattle.gimple_ir.specs.declared.value.Object.TheVariants.{Global as GlobalObject, Local as LocalObject}
@@ -68,3 +69,13 @@ pub record IsLaidOut (structs : List StructDef) (vs : List Variable) (m : Memory
 -- in each state of each run the globals and the locals of the frames live, with the slots of their layouts, and nothing else
 abbrev pub MemoryIsLaidOut : Type 0
 MemoryIsLaidOut = (p : Sealed) (input : List ℤ) (past : List Event) (s : State) → Comes p input past s → IsLaidOut p.program.structs (variables_of p.program s) s.world.memory
+
+-- ---- each slot is there once
+
+-- no two slots have the same object and the same offset
+abbrev pub SlotsDiffer : List MemorySlot → Type 0
+SlotsDiffer slots = AllPairs (λ (x y : MemorySlot). x.object ≡ y.object → x.offset ≡ y.offset → ⊥) slots
+
+-- in each state of each run
+abbrev pub SlotsAreOnce : Type 0
+SlotsAreOnce = (p : Sealed) (input : List ℤ) (past : List Event) (s : State) → Comes p input past s → SlotsDiffer s.world.memory.slots

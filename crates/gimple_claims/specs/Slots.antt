@@ -1,5 +1,5 @@
 -- What slots and registers hold after stores and assignments, and between two states of a run.
-use Rattle.std.specs.Prelude.{◌≡◌, ◌<◌, ℕ, ℤ, Bool, false, List, [], ◌++◌, length, Option, Some, None, find, option_map}
+use Rattle.std.specs.Prelude.{◌≡◌, ℕ, ℤ, List, [], ◌++◌, Option, Some, find, option_map}
 use Rattle.std.specs.List.{AllByRecursion}
 use Rattle.gimple_ir.specs.declared.scalar.Scalar.{Scalar}
 use Rattle.gimple_ir.specs.declared.value.Value.{Value}
@@ -7,8 +7,8 @@ use Rattle.gimple_ir.specs.declared.value.Object.{Object}
 use Rattle.gimple_core.specs.declared.machine.Extent.{Extent}
 use Rattle.gimple_core.specs.declared.machine.MemorySlot.{MemorySlot}
 use Rattle.gimple_core.specs.Sealed.{Sealed}
-use Rattle.gimple_core.specs.Memory.{Memory, is_slot, put_slot}
-use Rattle.gimple_core.specs.State.{State, Scope, register_place, value_in, assigned}
+use Rattle.gimple_core.specs.Memory.{Memory, is_slot}
+use Rattle.gimple_core.specs.State.{State}
 use Rattle.gimple_core.specs.Run.{Transfer, Goes, Reaches, Moves, step}
 use Rattle.gimple_core.specs.Trace.{Event, Entry, At, Load, Store, Leave, told}
 use Rattle.gimple_claims.specs.Runs.{Comes}

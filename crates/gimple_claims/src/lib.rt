@@ -4,10 +4,12 @@
 ghost use Rattle.gimple_claims.specs.Checks.{FunctionsAreChecked, RunsBegin, NothingIsLost, AbortsOfAbort};
 ghost use Rattle.gimple_claims.specs.Laws.{SerialsGrow, EntriesAreNew, FramesAreLiveCalls, LivingAreOfFrames, DeadStayDead, GlobalsHold, RegistersAreDeclared, SettledRunsStay};
 ghost use Rattle.gimple_claims.specs.Pointers.{PointersAreOld, EntriesGetOldPointers};
-ghost use Rattle.gimple_claims.specs.Shapes.{MemoryIsLaidOut};
+ghost use Rattle.gimple_claims.specs.Private.{PrivateLocalsUnheld, FramesHaveBegun, PrivateLocalsNotPassed, PrivateLocalsByName};
+ghost use Rattle.gimple_claims.specs.Shapes.{MemoryIsLaidOut, SlotsAreOnce};
 ghost use Rattle.gimple_claims.specs.Slots.{SlotsKeepValues};
 ghost use Rattle.gimple_claims.specs.Typed.{EventsAreTyped, ValuesAreTyped};
 ghost use Rattle.gimple_claims.specs.Variables.{VariablesLive, VariablesHaveSlots, AccessesFindSlots};
+ghost use Rattle.gimple_claims.specs.Updates.{StoredSlotsHold, OtherSlotsStay, StoredAccessesFind, OtherAccessesFind, AssignedRegistersHold, OtherRegistersStay, AssignmentsKeepCounts};
 ghost use Rattle.gimple_claims.specs.Addressed.{FunctionValuesAreAddressed};
 
 /// Each frame and each event so far has a serial below the next one.
@@ -86,9 +88,10 @@ pub fn settled_runs_stay()
 {}
 
 /// The globals live, then the locals of the frames by their serials, and nothing else; the slots of memory are those of
-/// their layouts.
+/// their layouts, and no two of them have the same object and the same offset.
 pub fn memory_is_laid_out()
-    ensures { MemoryIsLaidOut }
+    ensures shape { MemoryIsLaidOut }
+    ensures once { SlotsAreOnce }
 {}
 
 /// Each pointer to a local, in a register or a slot, is of a frame with a serial below the next one; so a call that begins
@@ -96,6 +99,16 @@ pub fn memory_is_laid_out()
 pub fn pointers_are_old()
     ensures states { PointersAreOld }
     ensures entries { EntriesGetOldPointers }
+{}
+
+/// A local whose address no operand of its function takes, so that its name stands only as the base of loads and stores: in
+/// each state no register and no slot points to that local of a call that has begun, as each frame of a state is one; no call
+/// gets a pointer to it, in an argument or in memory; and each load of it and store to it is of that call, by its name.
+pub fn private_locals_unheld()
+    ensures states { PrivateLocalsUnheld }
+    ensures frames { FramesHaveBegun }
+    ensures entries { PrivateLocalsNotPassed }
+    ensures accesses { PrivateLocalsByName }
 {}
 
 /// Between two states of a run in which an object lives, each of its slots to which nothing is stored keeps its value.
@@ -109,4 +122,21 @@ pub fn variables_live()
     ensures lives { VariablesLive }
     ensures slots { VariablesHaveSlots }
     ensures accesses { AccessesFindSlots }
+{}
+
+/// In any memory, after a store to a slot: the slot, if it is there, holds what was stored, and an access to it, which found
+/// something before, finds that; each other slot holds what it held, and each other access finds what it found.
+pub fn slots_after_stores()
+    ensures stored { StoredSlotsHold }
+    ensures others { OtherSlotsStay }
+    ensures found { StoredAccessesFind }
+    ensures others_found { OtherAccessesFind }
+{}
+
+/// In any registers, after an assignment: the register, if the frame has it, holds what was assigned, each other one holds
+/// what it held, and there are as many as before.
+pub fn registers_after_assignments()
+    ensures assigned { AssignedRegistersHold }
+    ensures others { OtherRegistersStay }
+    ensures count { AssignmentsKeepCounts }
 {}
