@@ -5,7 +5,6 @@ pub mod Naming
 pub mod TableLemmas
 pub mod MadeLemmas
 pub mod PlaceLemmas
-pub mod BlockLemmas
 pub mod SignatureLemmas
 pub mod StepLemmas
 pub mod MachineLemmas

@@ -1,6 +1,5 @@
 -- What the machine's calls leave, as steps of the definition.
-use Rattle.std.proofs.Common.{◌≡◌, ◌∙◌, ap, sym, refl, subst, List, [], ◌∷◌, ◌++◌, reverse, map, Option, None, Ok, ℕ, ◌==◌, ◌+◌, ◌<◌, ◌≤◌, ◌^◌, length, arith, Vec, Global as Heap}
-use Rattle.std.specs.List.{find}
+use Rattle.std.proofs.Common.{◌≡◌, ◌∙◌, ap, sym, refl, subst, List, [], ◌∷◌, ◌++◌, reverse, map, slice_get, get_or, Option, None, Some, Ok, ℕ, zero, suc, ◌+◌, ◌<◌, ◌≤◌, ◌^◌, length, arith, Vec, Global as Heap}
 use Rattle.std.proofs.lemmas.List.{reverse-append}
 use Rattle.gimple_core.specs.Sealed.{Sealed}
 use Rattle.gimple_ir.specs.declared.block.Block.{Block}
@@ -10,30 +9,37 @@ use Rattle.gimple_ir.specs.declared.value.TrapKind.TheVariants.{Abort as AbortTr
 use Rattle.gimple_core.specs.Memory.{Memory, without_frame}
 use Rattle.gimple_core.specs.State as meant
 use Rattle.gimple_core.specs.State.{State}
-use Rattle.gimple_core.specs.Run.{Reached, Moves, Jump, CallReturn, CallEntry, Traps, jump, jumped, enter, entered, with_locals, registers_made, returned, given, paused}
+use Rattle.gimple_core.specs.Run.{Reached, Moves, Jump, CallReturn, CallEntry, Traps, jumped, enter, entered, with_locals, registers_made, returned, given, paused}
+use Rattle.gimple_lowered.specs.Meaning.{goes, numbered}
 use Rattle.gimple_exec.specs.declared.machine.Machine.{Machine}
 use Rattle.gimple_exec.specs.declared.machine.Waiting.{Waiting}
 use Rattle.gimple_exec.specs.declared.machine.Stand.{Stand}
 use Rattle.gimple_exec.specs.declared.machine.Reach.TheVariants.{Moves as HasMoved, Spent as HasSpent}
 use Rattle.gimple_exec.specs.Acts.{world_of}
 use Rattle.gimple_exec.specs.Machines.{state_of, frame_of, control_of, function_of, no_block, IsSound, IsPlaced, ArePlaced, Arrives, Begins}
-use Rattle.gimple_exec.specs.Places.{IsFirstAt}
-use Rattle.gimple_exec.proofs.BlockLemmas.{labelled_some, labelled_none}
 
 -- a machine that goes on in the frame of w
-abbrev pub left_in : Machine → Machine → Waiting → Vec Value Heap → Memory → Machine
-left_in m rest w registers memory = record {
+abbrev pub left_in : Machine → Machine → Waiting → Vec Value Heap → Memory → Vec (Vec Value Heap) Heap → Machine
+left_in m rest w registers memory spare = record {
   top = w.stand;
   below = rest.below;
   world = record m.world { registers = registers; memory = memory };
   next = m.next;
+  spare = spare;
 }
 
-pub leave_arrives : (p : Sealed) (m rest : Machine) (v : Option Value) (w : Waiting) (registers : Vec Value Heap) (memory : Memory) → m.below.items ≡ rest.below.items ++ w ∷ [] → registers.items ≡ given w.registers.items m.top.takes v → memory ≡ without_frame m.top.serial m.world.memory → IsSound p m → Arrives p m.next HasMoved (returned (state_of p m) v (state_of p m).below) (left_in m rest w registers memory)
-leave_arrives p m rest v w registers memory e a b sound =
+pub leave_arrives : (p : Sealed) (m rest : Machine) (v : Option Value) (w : Waiting) (registers : Vec Value Heap) (memory : Memory) (spare : Vec (Vec Value Heap) Heap) → m.below.items ≡ rest.below.items ++ w ∷ [] → registers.items ≡ given w.registers.items m.top.takes v → memory ≡ without_frame m.top.serial m.world.memory → IsSound p m → Arrives p m.next HasMoved (returned (state_of p m) v (state_of p m).below) (left_in m rest w registers memory spare)
+leave_arrives p m rest v w registers memory spare e a b sound =
     let back : reverse m.below.items ≡ w ∷ reverse rest.below.items = ap reverse e ∙ reverse-append rest.below.items (w ∷ []) in
     let placed : ArePlaced p (w ∷ reverse rest.below.items) = subst (λ ws. ArePlaced p ws) back sound.below in
     (CallReturn, rw (back, a, b) refl, record { top = placed.0; below = placed.1 }, omega arith)
+
+-- the same machine with other spare rows
+abbrev pub sparing : Machine → Vec (Vec Value Heap) Heap → Machine
+sparing m spare = record m { spare = spare }
+
+pub sparing_sound : (p : Sealed) (m : Machine) (spare : Vec (Vec Value Heap) Heap) → IsSound p m → IsSound p (sparing m spare)
+sparing_sound p m spare sound = record { top = sound.top; below = sound.below }
 
 -- ---- a jump
 
@@ -41,12 +47,23 @@ leave_arrives p m rest v w registers memory e a b sound =
 abbrev pub jumped_to : Machine → ℕ → Machine
 jumped_to m k = record m { top = record m.top { block = k; index = 0 } }
 
-pub jump_some : (p : Sealed) (m : Machine) (label k : ℕ) → IsFirstAt (λ b. b.label == label) (function_of p m.top.function).blocks k → IsSound p m → Arrives p m.next HasMoved (jump (state_of p m) label) (jumped_to m k)
-jump_some p m label k at sound =
-    (Jump, ap (jumped (state_of p m)) (labelled_some label (function_of p m.top.function).blocks k no_block at), record { top = record { function = sound.top.function; block = at.within; index = omega arith }; below = sound.below }, omega arith)
+item_at : {X : Type 0} (xs : List X) (k : ℕ) (d : X) → k < length xs → slice_get xs k ≡ Some (get_or xs k d)
+item_at [] k d l = absurd (omega arith)
+item_at (x ∷ xs) zero d l = refl
+item_at (x ∷ xs) (suc k) d l = item_at xs k d (omega arith)
 
-pub jump_none : (p : Sealed) (m : Machine) (label : ℕ) → find (λ b. b.label == label) (function_of p m.top.function).blocks ≡ None → jump (state_of p m) label ≡ Traps m.world.output AbortTrap
-jump_none p m label none = ap (jumped (state_of p m)) (labelled_none label (function_of p m.top.function).blocks none)
+item_past : {X : Type 0} (xs : List X) (k : ℕ) → length xs ≤ k → slice_get xs k ≡ None
+item_past [] zero l = refl
+item_past [] (suc k) l = refl
+item_past (x ∷ xs) zero l = absurd (omega arith)
+item_past (x ∷ xs) (suc k) l = item_past xs k (omega arith)
+
+pub goes_some : (p : Sealed) (m : Machine) (k : ℕ) → k < length (function_of p m.top.function).blocks → IsSound p m → Arrives p m.next HasMoved (goes (state_of p m) (Some k)) (jumped_to m k)
+goes_some p m k within sound =
+    (Jump, ap (λ (o : Option Block). jumped (state_of p m) (numbered k o)) (item_at (function_of p m.top.function).blocks k no_block within), record { top = record { function = sound.top.function; block = within; index = omega arith }; below = sound.below }, omega arith)
+
+pub goes_past : (p : Sealed) (m : Machine) (k : ℕ) → length (function_of p m.top.function).blocks ≤ k → goes (state_of p m) (Some k) ≡ Traps m.world.output AbortTrap
+goes_past p m k past = ap (λ (o : Option Block). jumped (state_of p m) (numbered k o)) (item_past (function_of p m.top.function).blocks k past)
 
 -- ---- a call
 

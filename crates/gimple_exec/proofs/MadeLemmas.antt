@@ -1,5 +1,5 @@
 -- Registers, slots and objects that are made one after another.
-use Rattle.std.proofs.Common.{◌≡◌, ◌∙◌, ap, sym, refl, ℕ, zero, suc, false, map, ◌+◌, ◌<◌, ◌≤◌, List, [], ◌∷◌, ◌++◌, length, drop, get_or, slice_get, unwrap_or, append_assoc, append-nil, add-one, drop-cons}
+use Rattle.std.proofs.Common.{◌≡◌, ◌∙◌, ap, sym, refl, ℕ, zero, suc, false, map, ◌+◌, ◌<◌, ◌≤◌, List, [], ◌∷◌, ◌++◌, length, drop, get_or, slice_get, unwrap_or, Option, Some, None, append_assoc, append-nil, add-one, drop-cons}
 use Rattle.std.proofs.Math.ListN.{drop_of_length-le}
 use Rattle.gimple_ir.specs.declared.value.Value.{Value}
 use Rattle.gimple_core.specs.State.{zero_of}
@@ -12,8 +12,6 @@ use Rattle.gimple_ir.specs.declared.declarations.StructDef.{StructDef}
 use Rattle.gimple_core.specs.declared.machine.MemorySlot.{MemorySlot}
 use Rattle.gimple_core.specs.Memory.{Memory}
 use Rattle.gimple_core.specs.Layout.{layout_of}
-use Rattle.gimple_ir.specs.declared.value.Layout.{Layout}
-use Rattle.gimple_exec.specs.Tables.{layouts_of, with_layouts}
 use Rattle.gimple_ir.specs.declared.declarations.Register.{Register}
 use Rattle.gimple_core.specs.Run.{values_made, filled, with_object, with_locals, with_globals, item_value}
 
@@ -44,22 +42,16 @@ filled_more slots object ss vs k d l =
 pub filled_all : (slots : List MemorySlot) (object : Object) (ss : List LayoutSlot) (vs : List Value) (k : ℕ) → length ss ≤ k → slots ++ filled object (drop k ss) (drop k vs) ≡ slots
 filled_all slots object ss vs k l = rw (drop_of_length-le ss l, append-nil) refl
 
-pub layouts_more : (serial k : ℕ) (ls : List Layout) (m : Memory) (l : Layout) → k < length ls → l ≡ get_or ls k l → with_layouts serial (k + 1) (drop (k + 1) ls) (with_object m (Local serial k) l false []) ≡ with_layouts serial k (drop k ls) m
-unfolding with_layouts
-layouts_more serial k ls m l within e =
-    let f : drop k ls ≡ l ∷ drop (suc k) ls = drop-cons ls k l within ∙ ap (λ (y : Layout). y ∷ drop (suc k) ls) (sym e) in
-    ap (λ n. with_layouts serial (k + 1) (drop n ls) (with_object m (Local serial k) l false [])) (add-one k)
-    ∙ ap (λ xs. with_layouts serial k xs m) (sym f)
+pub locals_more : (structs : List StructDef) (serial k : ℕ) (ds : List Decl) (m : Memory) (d : Decl) → k < length ds → d ≡ get_or ds k d → with_locals structs serial (k + 1) (drop (k + 1) ds) (with_object m (Local serial k) (layout_of structs d) false []) ≡ with_locals structs serial k (drop k ds) m
+unfolding with_locals
+locals_more structs serial k ds m d l e =
+    let f : drop k ds ≡ d ∷ drop (suc k) ds = drop-cons ds k d l ∙ ap (λ (y : Decl). y ∷ drop (suc k) ds) (sym e) in
+    ap (λ n. with_locals structs serial (k + 1) (drop n ds) (with_object m (Local serial k) (layout_of structs d) false [])) (add-one k)
+    ∙ ap (λ xs. with_locals structs serial k xs m) (sym f)
 
-pub layouts_all : (serial k : ℕ) (ls : List Layout) (m : Memory) → length ls ≤ k → with_layouts serial k (drop k ls) m ≡ m
-unfolding with_layouts
-layouts_all serial k ls m l = rw (drop_of_length-le ls l) refl
-
--- a frame's locals by their layouts
-pub by_layouts : (structs : List StructDef) (serial k : ℕ) (ds : List Decl) (m : Memory) → with_layouts serial k (layouts_of structs ds) m ≡ with_locals structs serial k ds m
-unfolding with_layouts with_locals
-by_layouts structs serial k [] m = refl
-by_layouts structs serial k (d ∷ ds) m = by_layouts structs serial (k + 1) ds (with_object m (Local serial k) (layout_of structs d) false [])
+pub locals_all : (structs : List StructDef) (serial k : ℕ) (ds : List Decl) (m : Memory) → length ds ≤ k → with_locals structs serial k (drop k ds) m ≡ m
+unfolding with_locals
+locals_all structs serial k ds m l = rw (drop_of_length-le ds l) refl
 
 pub globals_more : (structs : List StructDef) (all : List Global) (k : ℕ) (gs : List Global) (m : Memory) (g : Global) → k < length gs → g ≡ get_or gs k g → with_globals structs all (k + 1) (drop (k + 1) gs) (with_object m (GlobalObject k) (layout_of structs g.decl) g.constant (map (item_value all) g.items)) ≡ with_globals structs all k (drop k gs) m
 unfolding with_globals
@@ -71,3 +63,26 @@ globals_more structs all k gs m g l e =
 pub globals_all : (structs : List StructDef) (all : List Global) (k : ℕ) (gs : List Global) (m : Memory) → length gs ≤ k → with_globals structs all k (drop k gs) m ≡ m
 unfolding with_globals
 globals_all structs all k gs m l = rw (drop_of_length-le gs l) refl
+
+abbrev no_values : List Value
+no_values = []
+
+no_value : (n : ℕ) → slice_get no_values n ≡ None
+no_value zero = refl
+no_value (suc n) = refl
+
+pub others_more : (values : List Value) (rs : List Register) (k : ℕ) (x : Register) → k < length rs → x ≡ get_or rs k x → (values ++ zero_of x.scalar ∷ []) ++ values_made (drop (k + 1) rs) [] (k + 1) ≡ values ++ values_made (drop k rs) [] k
+others_more values rs k x l e = ap (λ (o : Option Value). (values ++ unwrap_or o (zero_of x.scalar) ∷ []) ++ values_made (drop (k + 1) rs) [] (k + 1)) (sym (no_value k)) ∙ values_more values rs [] k x l e
+
+-- an argument, by its place
+pub argument_there : {X : Type 0} (f : X → Value) (xs : List X) (k : ℕ) (x : X) (z : Value) → slice_get xs k ≡ Some x → f x ≡ unwrap_or (slice_get (map f xs) k) z
+argument_there f [] zero x z e = cc
+argument_there f [] (suc k) x z e = cc
+argument_there f (y ∷ ys) zero x z e = let same : y ≡ x = cc in ap f (sym same)
+argument_there f (y ∷ ys) (suc k) x z e = argument_there f ys k x z e
+
+pub argument_past : {X : Type 0} (f : X → Value) (xs : List X) (k : ℕ) (z : Value) → slice_get xs k ≡ None → z ≡ unwrap_or (slice_get (map f xs) k) z
+argument_past f [] zero z e = refl
+argument_past f [] (suc k) z e = refl
+argument_past f (y ∷ ys) zero z e = cc
+argument_past f (y ∷ ys) (suc k) z e = argument_past f ys k z e

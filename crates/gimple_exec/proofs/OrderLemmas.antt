@@ -8,7 +8,7 @@ use Rattle.std.proofs.lemmas.Bool.Decides.{nat_tests}
 use Rattle.std.proofs.lemmas.List.{get_or_default, get_or_append_left, get_or_push, length_push, length-set, get_or-set_same, get_or-set_other, get_or-take, length-take-le}
 use Rattle.gimple_ir.specs.declared.value.Object.{Object}
 use Rattle.gimple_exec.specs.Order.{rank, precedes, IsOrdered, Follows, IsSplit, IsLatest}
-use Rattle.gimple_exec.specs.Places.{IsPlace}
+use Rattle.gimple_exec.specs.Places.{IsPlace, IsFirstAt}
 use Rattle.gimple_exec.proofs.AssignedLemmas.{NoneBefore}
 use Rattle.gimple_exec.proofs.PlaceLemmas.{first_at, place_none}
 
@@ -95,6 +95,11 @@ Parts {X} before t xs at = IsPartitionPoint (λ x. before x t ≡ true) (λ x. b
 
 none_before : {X : Type 0} (before : X → X → Bool) (t : X) (p : X → Bool) → Seeks before t p → (xs : List X) (at : ℕ) → Parts before t xs at → NoneBefore p xs at
 none_before before t p seeks xs at parts k d l = seeks.apart (get_or xs k d) (parts.0 k d (omega arith) l)
+
+-- an item that passes is the first one
+pub first_here : {X : Type 0} (before : X → X → Bool) (t : X) (p : X → Bool) → Seeks before t p → (xs : List X) (k : ℕ) (d : X) → IsOrdered before xs → k < length xs → p (get_or xs k d) ≡ true → IsFirstAt p xs k
+first_here before t p seeks xs k d h l m =
+    first_at p xs k d l (λ i e b. seeks.apart (get_or xs i e) (seeks.reach (get_or xs k d) (get_or xs i e) m (ap (before (get_or xs i e)) (get_or_default xs k d e l) ∙ h i k e b l))) m
 
 pub place_there : {X : Type 0} (before : X → X → Bool) (t : X) (p : X → Bool) → Seeks before t p → (xs : List X) (at : ℕ) (d : X) → Parts before t xs at → at < length xs → p (get_or xs at d) ≡ true → IsPlace p xs (Some at)
 place_there before t p seeks xs at d parts l e = first_at p xs at d l (none_before before t p seeks xs at parts) e

@@ -88,6 +88,11 @@ abbrev pub Leads : Sealed → ℕ → Step → run.Did → Machine → Type 0
 Leads p n Goes d m = (d ≡ run.Goes (state_of p m)) × IsSound p m × (m.next ≡ n)
 Leads p n (Reaches reach) d m = ArrivesBy p n reach d m
 
+-- where the run goes on, it does so in the same block
+abbrev pub Stays : Step → Stand → Stand → Type 0
+Stays Goes old new = (new.function ≡ old.function) × (new.block ≡ old.block)
+Stays (Reaches reach) old new = Unit {0}
+
 -- the number of the function that is called, or the kind of trap
 abbrev pub IsCalled : Sealed → Result ℕ TrapKind → Result Function TrapKind → Type 0
 IsCalled p (Ok k) r = (k < length p.program.functions) × (r ≡ Ok (function_of p k))

@@ -1,6 +1,6 @@
 //! The extents of the objects that live.
 
-ghost use Rattle.std.specs.Prelude.{◌≡◌, ◌++◌, ◌∷◌, [], find, filter, OnOk};
+ghost use Rattle.std.specs.Prelude.{◌≡◌, ◌++◌, ◌∷◌, [], Some, find, filter, IfSome, OnOk};
 ghost use Rattle.std.specs.Option.{option_copied};
 ghost use Rattle.gimple_core.specs.Memory.{same_object, is_elsewhere};
 
@@ -65,15 +65,44 @@ impl Extents {
         self.rows.push(extent)
     }
 
-    /// The first extent of an object.
-    pub fn found(&self, object: Object) -> Option<&Extent>
+    /// How many objects live.
+    pub fn len(&self) -> usize {
+        self.rows.len()
+    }
+
+    /// The first extent of an object, which may be near a guess.
+    pub fn found(&self, object: Object, guess: usize) -> Option<&Extent>
         ensures { option_copied result ≡ find (λ x. same_object x.object object) self.now }
     {
-        self.rows.found(&Extent {
+        match self.here(object, guess) {
+            Some(extent) => Some(extent),
+            None => self.elsewhere(object, guess),
+        }
+    }
+
+    /// The extent of an object, if it is the one at this place.
+    fn here(&self, object: Object, at: usize) -> Option<&Extent>
+        ensures { IfSome result (λ x. find (λ y. same_object y.object object) self.now ≡ Some x.now) }
+    {
+        let Some(extent) = self.rows.ordered_item(at) else {
+            return None;
+        };
+        if is_same_object(extent.object, object) {
+            return Some(extent);
+        }
+        None
+    }
+
+    /// The first extent of an object, which is not the one at a guess.
+    fn elsewhere(&self, object: Object, guess: usize) -> Option<&Extent>
+        ensures { option_copied result ≡ find (λ x. same_object x.object object) self.now }
+    {
+        let sought = Extent {
             object,
             size: 0,
             constant: false,
-        })
+        };
+        self.rows.found(&sought, guess)
     }
 
     /// Takes out those of a frame that has returned.

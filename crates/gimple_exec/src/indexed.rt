@@ -1,29 +1,25 @@
 //! A program with what is found in it again and again.
 
-ghost use Rattle.std.specs.Prelude.{◌≡◌, ◌<◌, ◌≤◌, ◌^◌, ◌==◌, [], ◌↔◌, ℕ, IfOk, IsTrue, length, map, slice_index_or};
+ghost use Rattle.std.specs.Prelude.{◌≡◌, ◌<◌, ◌^◌, [], ◌↔◌, IfOk, IsTrue, length, map, slice_index_or};
 ghost use Rattle.std.specs.List.{All};
 ghost use Rattle.std.specs.Str.{bytes_eq};
 ghost use Rattle.gimple_exec.specs.Places.{IsPlace};
-ghost use Rattle.gimple_core.specs.Layout.{layout_of};
-ghost use Rattle.gimple_core.specs.State.{registers_of};
-ghost use Rattle.gimple_core.specs.Run.{function_named, same_scalars, same_result, has_signature, called_by_name, called_with};
-ghost use Rattle.gimple_exec.specs.Machines.{no_function, function_of, block_of, IsLimited, IsCalled};
-ghost use Rattle.gimple_exec.specs.Tables.{layouts_of, tables_in};
+ghost use Rattle.gimple_core.specs.Run.{same_scalars, same_result, has_signature, called_by_name, called_with, function_named};
+ghost use Rattle.gimple_lowered.specs.Lowered.{piece_of};
+ghost use Rattle.gimple_lowered.specs.Meaning.{function_at};
+ghost use Rattle.gimple_exec.specs.Machines.{function_of, block_of, IsLimited, IsCalled};
+ghost use Rattle.gimple_exec.specs.Tables.{codes_of, names_at};
 
-use crate::function_tables::FunctionTables;
-use crate::scope::Scope;
 use crate::values::is_same_scalar;
-use gimple_core::{
-    Block, Function, Layout, Mode, OutOfMemory, Program, Register, Scalar, Signature, Text,
-    TrapKind,
-};
-use name_tables::{NamedFunctions, NamedGlobals, RegisterTable};
+use gimple_core::{Function, Mode, OutOfMemory, Program, Register, Scalar, Signature, TrapKind};
+use gimple_lowered::{Code, Piece, code_of};
+use name_tables::{NamedFunctions, NamedGlobals};
 use std::alloc::Global as Heap;
 use std::marker::Model;
 use struct_tables::Structs;
 
-/// A program and the mode of its arithmetic, with its structs, functions and globals by their names, and the tables of each
-/// function.
+/// A program and the mode of its arithmetic, with its structs, functions and globals by their names, and the lowered form of
+/// each function.
 #[derive(Drop)]
 pub struct Indexed<'a> {
     program: &'a Program,
@@ -31,7 +27,7 @@ pub struct Indexed<'a> {
     structs: Structs<'a>,
     functions: NamedFunctions<'a>,
     globals: NamedGlobals<'a>,
-    tables: Vec<FunctionTables<'a>>,
+    codes: Vec<Code<'a>>,
 }
 
 impl<'a> Model for Indexed<'a> {
@@ -42,24 +38,34 @@ impl<'a> Model for Indexed<'a> {
 
     ghost view = { λ x. record { program = x.program.now; mode = x.mode } };
 
-    ghost invariant = { λ x. IsIndexed x.program.now x.structs x.functions x.globals x.tables.items };
+    ghost invariant = { λ x. IsIndexed x.program.now x.structs x.functions x.globals x.codes.items };
 }
 
-fn program_tables<'a>(
+fn codes<'a>(
     alloc: Heap,
     program: &'a Program,
-    structs: &Structs<'_>,
-) -> Result<Vec<FunctionTables<'a>>, OutOfMemory>
-    requires sizes { (k : ℕ) → All (λ d. (layout_of program.now.structs d).size ≤ 2 ^ 24) (slice_index_or program.now.functions k no_function).locals }
-    requires structs { structs.now ≡ program.now.structs }
-    ensures { IfOk result (λ rows. rows.items ≡ tables_in program.now.structs program.now.functions) }
+    functions: &NamedFunctions<'a>,
+    globals: &NamedGlobals<'a>,
+) -> Result<Vec<Code<'a>>, OutOfMemory>
+    requires functions { functions.now ≡ program.now.functions }
+    requires named { globals.now ≡ program.now.globals }
+    requires globals { length program.now.globals < 2 ^ 32 }
+    requires locals { All (λ f. length f.locals < 2 ^ 32) program.now.functions }
+    ensures { IfOk result (λ rows. rows.items ≡ codes_of program.now.functions program.now.globals program.now.functions) }
 {
-    let functions = program.functions.as_slice();
+    let bodies = program.functions.as_slice();
     let mut rows = Vec::new(alloc);
-    for k in 0..functions.len() {
-        rows.push(FunctionTables::new(alloc, structs, &functions[k])?)?;
+    for k in 0..bodies.len() {
+        rows.push(code_of(alloc, functions, globals, &bodies[k])?)?;
     }
     Ok(rows)
+}
+
+fn piece_in<'c, 'a>(code: &'c [Piece<'a>], block: usize) -> &'c Piece<'a>
+    requires { block < length code.now }
+    ensures { result.now ≡ slice_index_or code.now block result.now }
+{
+    &code[block]
 }
 
 /// Whether formals have these scalars.
@@ -98,25 +104,26 @@ fn has_signature(function: &Function, signature: &Signature) -> bool
 impl<'a> Indexed<'a> {
     /// The program with its tables.
     pub fn new(alloc: Heap, program: &'a Program, mode: Mode) -> Result<Indexed<'a>, OutOfMemory>
-        requires { IsLimited (record { program = program.now; mode = mode }) }
+        requires limits { IsLimited (record { program = program.now; mode = mode }) }
+        requires locals { All (λ f. length f.locals < 2 ^ 32) program.now.functions }
         ensures { IfOk result (λ x. x ≡ record { program = program.now; mode = mode }) }
     {
         let structs = Structs::of(alloc, program.structs.as_slice())?;
         let functions = NamedFunctions::new(alloc, program.functions.as_slice())?;
         let globals = NamedGlobals::new(alloc, program.globals.as_slice())?;
-        let tables = program_tables(alloc, program, &structs)?;
+        let codes = codes(alloc, program, &functions, &globals)?;
         Ok(Indexed {
             program,
             mode,
             structs,
             functions,
             globals,
-            tables,
+            codes,
         })
     }
 
     /// The program itself.
-    pub fn source(&self) -> &Program
+    pub fn source(&self) -> &'a Program
         ensures { result.now ≡ self.now.program }
     {
         self.program
@@ -130,13 +137,28 @@ impl<'a> Indexed<'a> {
         &self.program.functions.as_slice()[k]
     }
 
-    /// A block of the program.
-    pub fn block_at(&self, function: usize, block: usize) -> &Block
+    /// The mode of its arithmetic.
+    pub fn mode(&self) -> Mode
+        ensures { result ≡ self.now.mode }
+    {
+        self.mode
+    }
+
+    /// How many blocks a function has.
+    pub fn block_count(&self, function: usize) -> usize
+        requires { function < length self.now.program.functions }
+        ensures { result ≡ length (function_of self.now function).blocks }
+    {
+        self.function_at(function).blocks.len()
+    }
+
+    /// The lowered form of a block.
+    pub fn piece(&self, function: usize, block: usize) -> &Piece<'a>
         requires function { function < length self.now.program.functions }
         requires block { block < length (function_of self.now function).blocks }
-        ensures { result.now ≡ block_of (function_of self.now function) block }
+        ensures { result.now ≡ piece_of (names_at self.now function) (block_of (function_of self.now function) block) }
     {
-        &self.function_at(function).blocks.as_slice()[block]
+        piece_in(self.codes[function].as_slice(), block)
     }
 
     /// Whether a function has no blocks.
@@ -168,14 +190,17 @@ impl<'a> Indexed<'a> {
         self.functions.place_of(name)
     }
 
-    /// The function of a name, or the kind of trap.
-    #[tactic(auto, unfolding(gimple_core::specs::Run::function_named))]
-    pub fn callee(&self, name: &[u8]) -> Result<usize, TrapKind>
-        ensures { IsCalled self.now result (called_by_name (function_named name.now self.now.program.functions)) }
+    /// The function of a number, or the kind of trap.
+    pub fn callee(&self, number: Option<usize>) -> Result<usize, TrapKind>
+        ensures { IsCalled self.now result (called_by_name (function_at self.now.program.functions number)) }
     {
-        match self.named_place(name) {
-            Some(k) => Ok(k),
-            None => Err(TrapKind::Abort),
+        let Some(k) = number else {
+            return Err(TrapKind::Abort);
+        };
+        if k < self.program.functions.len() {
+            Ok(k)
+        } else {
+            Err(TrapKind::Abort)
         }
     }
 
@@ -191,48 +216,6 @@ impl<'a> Indexed<'a> {
             Ok(k)
         } else {
             Err(TrapKind::BadCall)
-        }
-    }
-
-    /// The first block of a label in a function.
-    pub fn block_place(&self, function: usize, label: u64) -> Option<usize>
-        requires { function < length self.now.program.functions }
-        ensures { IsPlace (λ b. b.label == label) (function_of self.now function).blocks result }
-    {
-        self.tables[function].labels.place(label)
-    }
-
-    /// The layouts of a function's locals.
-    pub fn layouts(&self, function: usize) -> &[Layout]
-        requires { function < length self.now.program.functions }
-        ensures { result.now ≡ layouts_of self.now.program.structs (function_of self.now function).locals }
-    {
-        self.tables[function].layouts.as_slice()
-    }
-
-    /// The registers of a function, formals first.
-    pub fn registers(&self, function: usize) -> &RegisterTable
-        requires { function < length self.now.program.functions }
-        ensures { result.now ≡ registers_of (function_of self.now function) }
-    {
-        &self.tables[function].registers
-    }
-
-    /// The variables that a frame of a function sees.
-    pub fn scope(&self, function: usize, serial: u64) -> Scope<'_>
-        requires { function < length self.now.program.functions }
-        ensures globals { result.globals.now ≡ self.now.program.globals }
-        ensures locals { result.locals.now ≡ (function_of self.now function).locals }
-        ensures registers { result.registers.now ≡ registers_of (function_of self.now function) }
-        ensures mode { result.mode ≡ self.now.mode }
-        ensures serial { result.serial ≡ serial }
-    {
-        Scope {
-            globals: &self.globals,
-            locals: &self.tables[function].locals,
-            registers: &self.tables[function].registers,
-            mode: self.mode,
-            serial,
         }
     }
 }

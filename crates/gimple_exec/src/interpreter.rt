@@ -1,8 +1,8 @@
 //! Runs of programs.
 
-ghost use Rattle.std.specs.Prelude.{◌≡◌, ◌<◌, ◌≤◌, ◌+◌, ◌^◌, length, IfOk};
+ghost use Rattle.std.specs.Prelude.{◌≡◌, ◌<◌, ◌≤◌, ◌+◌, ◌^◌, [], length, IfOk};
 ghost use Rattle.std.specs.List.{All};
-ghost use Rattle.gimple_core.specs.Run.{Run, runs};
+ghost use Rattle.gimple_core.specs.Run.{Run, runs, registers_made};
 ghost use Rattle.gimple_exec.specs.Machines.{state_of, IsSound, IsLimited, IsFirst, Starts};
 
 use crate::entry;
@@ -10,13 +10,23 @@ use crate::indexed::Indexed;
 use crate::machine::{Machine, Reach, Stand};
 use crate::memory::Memory;
 use crate::world::World;
-use gimple_core::{Checked, Listed, OutOfMemory, Outcome, Text, TrapKind};
+use gimple_core::{Checked, Function, Listed, OutOfMemory, Outcome, Text, TrapKind, Value};
+use gimple_lowered::Sources;
 use std::alloc::Global as Heap;
+
+/// What the registers of a function without arguments hold at first.
+fn first_registers<'t>(alloc: Heap, function: &Function) -> Result<Vec<Value<'t>>, OutOfMemory>
+    ensures { IfOk result (λ held. held.items ≡ registers_made function.now []) }
+{
+    let none = Vec::new(alloc);
+    let sources = Sources::new(alloc);
+    entry::registers(Vec::new(alloc), function, 0, none.as_slice(), &sources)
+}
 
 /// The machine in which the first frame of a function begins.
 fn first_machine<'t>(
     alloc: Heap,
-    program: &'t Indexed<'_>,
+    program: &Indexed<'t>,
     k: usize,
     input: &[i64],
 ) -> Result<Machine<'t>, OutOfMemory>
@@ -26,9 +36,8 @@ fn first_machine<'t>(
 {
     let mut memory = Memory::new(alloc);
     memory.add_program(alloc, program)?;
-    memory.add_frame(program, k, 0)?;
-    let arguments = Vec::new(alloc);
-    let registers = entry::registers(alloc, program.function_at(k), arguments.as_slice())?;
+    memory.add_frame(alloc, program, k, 0)?;
+    let registers = first_registers(alloc, program.function_at(k))?;
     let input = Listed::from_vec(Vec::from_slice(alloc, input)?);
     Ok(Machine {
         top: Stand {
@@ -47,13 +56,14 @@ fn first_machine<'t>(
             output: Text::new(alloc),
         },
         next: 1,
+        spare: Vec::new(alloc),
     })
 }
 
 /// The machine in which `main` begins.
 fn start<'t>(
     alloc: Heap,
-    program: &'t Indexed<'_>,
+    program: &Indexed<'t>,
     input: &[i64],
 ) -> Result<Option<Machine<'t>>, OutOfMemory>
     requires { IsLimited program.now }
@@ -73,7 +83,7 @@ fn start<'t>(
 fn take_turns<'t>(
     mut machine: Machine<'t>,
     alloc: Heap,
-    program: &'t Indexed<'_>,
+    program: &Indexed<'t>,
     turns: u64,
 ) -> Result<Outcome, OutOfMemory>
     requires sound { IsSound program.now machine }

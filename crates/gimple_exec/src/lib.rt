@@ -3,7 +3,7 @@
 
 mod entry;
 mod extents;
-mod function_tables;
+mod hints;
 mod indexed;
 mod interpreter;
 mod machine;
@@ -11,7 +11,6 @@ mod memory;
 mod order;
 mod registers;
 mod rows;
-mod scope;
 mod slots;
 mod values;
 mod world;

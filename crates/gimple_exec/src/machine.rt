@@ -3,16 +3,16 @@
 ghost use Rattle.std.specs.Prelude.{◌≡◌, ◌<◌, ◌^◌, length, Ok, IfOk, OnOk, find};
 ghost use Rattle.std.specs.Option.{option_copied};
 ghost use Rattle.gimple_core.specs.Operators.{cmp_of};
-ghost use Rattle.gimple_core.specs.Run.{status_of, given, case_for};
+ghost use Rattle.gimple_core.specs.Run.{status_of, given};
+ghost use Rattle.gimple_lowered.specs.Meaning.{chosen};
 ghost use Rattle.gimple_exec.specs.Machines.{function_of};
 
 use crate::indexed::Indexed;
+use crate::values::Frame;
 use crate::world::World;
 use crate::{entry, registers, values};
-use gimple_core::{
-    Case, Cases, Cmp, End, Operand, OutOfMemory, Scalar, Signature, Stmt, Text, TrapKind, Value,
-    eval_cmp,
-};
+use gimple_core::{Cmp, Listed, OutOfMemory, Scalar, Signature, Text, TrapKind, Value, eval_cmp};
+use gimple_lowered::{Choice, Ending, Instruction, Piece, Source, Sources, number_of_value};
 use std::alloc::Global as Heap;
 use std::mem;
 
@@ -33,13 +33,15 @@ pub struct Waiting<'t> {
     pub registers: Vec<Value<'t>>,
 }
 
-/// The state of a run. The next serial may be 2^64, which no frame has.
+/// The state of a run. The next serial may be 2^64, which no frame has. Spare rows are those of frames that have returned: a call
+/// takes one for its registers.
 #[derive(Drop)]
 pub struct Machine<'t> {
     pub top: Stand,
     pub below: Vec<Waiting<'t>>,
     pub world: World<'t>,
     pub next: u128,
+    pub spare: Vec<Vec<Value<'t>>>,
 }
 
 /// How the statements up to a transfer end: with the transfer, with a call that no serial is left for, with main's last
@@ -60,23 +62,27 @@ pub enum Step {
 }
 
 impl<'t> Machine<'t> {
-    ghost use Rattle.gimple_core.specs.Run.{jump, returned, Named, Through, enter, taking, called_through, call, registers_made, values_of, value_of, any_number, finish, perform, act, acted, step, with_locals, walk};
-    ghost use Rattle.gimple_core.specs.State.{scope_of, setting_of, value_in};
+    ghost use Rattle.gimple_core.specs.Run.{returned, enter, called_by_name, called_through, registers_made, any_number, acted, compares, step, with_locals, walk};
+    ghost use Rattle.gimple_core.specs.State.{value_at};
+    ghost use Rattle.gimple_lowered.specs.Meaning.{arguments_in, source_values, function_at, performs, does, goes, source_value, source_result, ends};
     ghost use Rattle.gimple_exec.specs.Acts.{world_of};
-    ghost use Rattle.gimple_exec.specs.Machines.{state_of, control_of, IsSound, IsLimited, IsCalled, Leads, Arrives, Begins};
+    ghost use Rattle.gimple_lowered.specs.Lowered.{piece_of};
+    ghost use Rattle.gimple_exec.specs.Tables.{names_at};
+    ghost use Rattle.gimple_exec.specs.Machines.{state_of, block_of, IsSound, IsLimited, IsCalled, Leads, Stays, Arrives, Begins};
 
-    fn jump(&mut self, program: &Indexed<'_>, label: u64) -> Reach
+    fn jump(&mut self, program: &Indexed<'_>, target: Option<usize>) -> Reach
         requires { IsSound program.now self.old }
-        ensures { Arrives program.now self.old.next result (jump (state_of program.now self.old) label) self.new }
+        ensures { Arrives program.now self.old.next result (goes (state_of program.now self.old) target) self.new }
     {
-        match program.block_place(self.top.function, label) {
-            Some(k) => {
-                self.top.block = k;
-                self.top.index = 0;
-                Reach::Moves
-            }
-            None => Reach::Traps(TrapKind::Abort),
+        let Some(k) = target else {
+            return Reach::Traps(TrapKind::Abort);
+        };
+        if k >= program.block_count(self.top.function) {
+            return Reach::Traps(TrapKind::Abort);
         }
+        self.top.block = k;
+        self.top.index = 0;
+        Reach::Moves
     }
 
     fn leave(&mut self, program: &Indexed<'_>, value: Option<Value<'t>>) -> Reach
@@ -92,7 +98,8 @@ impl<'t> Machine<'t> {
                 } = waiting;
                 give(&mut registers, self.top.takes, value);
                 self.world.memory.leave(self.top.serial);
-                self.world.registers = registers;
+                let row = mem::replace(&mut self.world.registers, registers);
+                spare(&mut self.spare, row);
                 self.top = stand;
                 Reach::Moves
             }
@@ -103,15 +110,15 @@ impl<'t> Machine<'t> {
     fn enter(
         &mut self,
         alloc: Heap,
-        program: &'t Indexed<'_>,
-        to: &Option<Text>,
+        program: &Indexed<'t>,
+        to: Option<usize>,
         k: usize,
-        operands: &'t [Operand],
+        arguments: &Sources<'t>,
     ) -> Result<Reach, OutOfMemory>
         requires sound { IsSound program.now self.old }
         requires limits { IsLimited program.now }
         requires within { k < length program.now.program.functions }
-        ensures { IfOk result (λ reach. Arrives program.now self.old.next reach (enter program.now.program.structs (state_of program.now self.old) (taking (scope_of (control_of program.now self.old.top)) to.now) (values_of program.now.program.globals (scope_of (control_of program.now self.old.top)) self.old.world.registers.items operands.now) (Ok (function_of program.now k))) self.new) }
+        ensures { IfOk result (λ reach. Arrives program.now self.old.next reach (enter program.now.program.structs (state_of program.now self.old) to (arguments_in (state_of program.now self.old) arguments.now) (Ok (function_of program.now k))) self.new) }
     {
         if program.is_bodiless(k) {
             return Ok(Reach::Traps(TrapKind::Abort));
@@ -119,27 +126,27 @@ impl<'t> Machine<'t> {
         if self.next > u128::from(u64::MAX) {
             return Ok(Reach::Spent);
         }
-        let registers = self.registers_for(alloc, program, k, operands)?;
-        let takes = self.taking(program, to);
-        self.begin(program, k, takes, registers)?;
+        let row = spare_row(alloc, &mut self.spare);
+        let registers = self.registers_for(row, program, k, arguments)?;
+        self.begin(alloc, program, k, to, registers)?;
         Ok(Reach::Moves)
     }
 
-    /// A call of a function by its name.
-    fn call_named(
+    /// A call of a function by its number.
+    fn call_numbered(
         &mut self,
         alloc: Heap,
-        program: &'t Indexed<'_>,
-        to: &Option<Text>,
-        callee: &Text,
-        operands: &'t [Operand],
+        program: &Indexed<'t>,
+        to: Option<usize>,
+        callee: Option<usize>,
+        arguments: &Sources<'t>,
     ) -> Result<Reach, OutOfMemory>
         requires sound { IsSound program.now self.old }
         requires limits { IsLimited program.now }
-        ensures { IfOk result (λ reach. Arrives program.now self.old.next reach (call program.now (record { to = to.now; callee = Named callee.now; arguments = operands.now }) (state_of program.now self.old)) self.new) }
+        ensures { IfOk result (λ reach. Arrives program.now self.old.next reach (enter program.now.program.structs (state_of program.now self.old) to (arguments_in (state_of program.now self.old) arguments.now) (called_by_name (function_at program.now.program.functions callee))) self.new) }
     {
-        match program.callee(callee.as_slice()) {
-            Ok(k) => self.enter(alloc, program, to, k, operands),
+        match program.callee(callee) {
+            Ok(k) => self.enter(alloc, program, to, k, arguments),
             Err(kind) => Ok(Reach::Traps(kind)),
         }
     }
@@ -148,18 +155,18 @@ impl<'t> Machine<'t> {
     fn call_through(
         &mut self,
         alloc: Heap,
-        program: &'t Indexed<'_>,
-        to: &Option<Text>,
+        program: &Indexed<'t>,
+        to: Option<usize>,
         signature: &Signature,
-        callee: &Text,
-        operands: &'t [Operand],
+        callee: Option<usize>,
+        arguments: &Sources<'t>,
     ) -> Result<Reach, OutOfMemory>
         requires sound { IsSound program.now self.old }
         requires limits { IsLimited program.now }
-        ensures { IfOk result (λ reach. Arrives program.now self.old.next reach (call program.now (record { to = to.now; callee = Through callee.now signature.now; arguments = operands.now }) (state_of program.now self.old)) self.new) }
+        ensures { IfOk result (λ reach. Arrives program.now self.old.next reach (enter program.now.program.structs (state_of program.now self.old) to (arguments_in (state_of program.now self.old) arguments.now) (called_through program.now.program.functions signature.now (value_at self.old.world.registers.items callee))) self.new) }
     {
         match self.target(program, callee, signature) {
-            Ok(k) => self.enter(alloc, program, to, k, operands),
+            Ok(k) => self.enter(alloc, program, to, k, arguments),
             Err(kind) => Ok(Reach::Traps(kind)),
         }
     }
@@ -168,52 +175,43 @@ impl<'t> Machine<'t> {
     fn target(
         &self,
         program: &Indexed<'_>,
-        callee: &Text,
+        callee: Option<usize>,
         signature: &Signature,
     ) -> Result<usize, TrapKind>
-        requires sound { IsSound program.now self.now }
-        ensures { IsCalled program.now result (called_through program.now.program.functions signature.now (value_in (scope_of (control_of program.now self.now.top)) self.now.world.registers.items callee.now)) }
+        ensures { IsCalled program.now result (called_through program.now.program.functions signature.now (value_at self.now.world.registers.items callee)) }
     {
-        let scope = program.scope(self.top.function, self.top.serial);
-        match registers::value(&scope, self.world.registers.as_slice(), callee) {
+        match registers::value_at(self.world.registers.as_slice(), callee) {
             Value::Code(name) => program.target(name.as_slice(), signature),
             Value::Null => Err(TrapKind::NullAccess),
             _ => Err(TrapKind::BadCall),
         }
     }
 
-    /// The position of the register that takes a call's result.
-    fn taking(&self, program: &Indexed<'_>, to: &Option<Text>) -> Option<usize>
-        requires sound { IsSound program.now self.now }
-        ensures { result ≡ taking (scope_of (control_of program.now self.now.top)) to.now }
-    {
-        match to {
-            Some(name) => registers::place(program.registers(self.top.function), name),
-            None => None,
-        }
-    }
-
-    /// The registers of a call that begins.
+    /// The registers of a call that begins, put into a row in place of what it held.
     fn registers_for(
         &self,
-        alloc: Heap,
-        program: &'t Indexed<'_>,
+        row: Vec<Value<'t>>,
+        program: &Indexed<'t>,
         k: usize,
-        operands: &'t [Operand],
+        arguments: &Sources<'t>,
     ) -> Result<Vec<Value<'t>>, OutOfMemory>
-        requires sound { IsSound program.now self.now }
         requires within { k < length program.now.program.functions }
-        requires limits { IsLimited program.now }
-        ensures { IfOk result (λ held. held.items ≡ registers_made (function_of program.now k) (values_of program.now.program.globals (scope_of (control_of program.now self.now.top)) self.now.world.registers.items operands.now)) }
+        ensures { IfOk result (λ held. held.items ≡ registers_made (function_of program.now k) (source_values self.now.top.serial self.now.world.registers.items arguments.now)) }
     {
-        let scope = program.scope(self.top.function, self.top.serial);
-        let values = entry::arguments(alloc, &scope, self.world.registers.as_slice(), operands)?;
-        entry::registers(alloc, program.function_at(k), values.as_slice())
+        let registers = self.world.registers.as_slice();
+        entry::registers(
+            row,
+            program.function_at(k),
+            self.top.serial,
+            registers,
+            arguments,
+        )
     }
 
     /// Begins a frame, with its locals.
     fn begin(
         &mut self,
+        alloc: Heap,
         program: &Indexed<'_>,
         function: usize,
         takes: Option<usize>,
@@ -225,7 +223,9 @@ impl<'t> Machine<'t> {
         ensures { OnOk result (Begins self.old function takes registers.entry.items (with_locals program.now.program.structs self.old.next 0 (function_of program.now function).locals (self.old.world.memory)) self.new) }
     {
         let serial = self.next as u64;
-        self.world.memory.add_frame(program, function, serial)?;
+        self.world
+            .memory
+            .add_frame(alloc, program, function, serial)?;
         let stand = Stand {
             function,
             block: 0,
@@ -241,63 +241,94 @@ impl<'t> Machine<'t> {
     }
 
     /// The end of a block.
-    fn finish(&mut self, program: &'t Indexed<'_>, end: &'t End) -> Reach
+    #[tactic(auto, unfolding(gimple_lowered::specs::Meaning::ends))]
+    fn finish(&mut self, program: &Indexed<'t>, end: &Ending<'t>) -> Reach
         requires sound { IsSound program.now self.old }
-        requires limits { IsLimited program.now }
-        ensures { Arrives program.now self.old.next result (finish program.now.program.globals end.now (state_of program.now self.old)) self.new }
+        ensures { Arrives program.now self.old.next result (ends end.now (state_of program.now self.old)) self.new }
     {
         match end {
-            End::Goto(label) => self.jump(program, *label),
-            End::If {
+            Ending::Goto(target) => self.jump(program, *target),
+            Ending::If {
                 left,
                 cmp,
                 right,
                 yes,
                 no,
             } => {
-                let left = self.value(program, left);
-                let right = self.value(program, right);
-                if values::compare(&left, *cmp, &right) {
+                if self.holds(left, *cmp, right) {
                     self.jump(program, *yes)
                 } else {
                     self.jump(program, *no)
                 }
             }
-            End::Switch { on, cases, other } => {
-                let label = self.chosen(program, on, cases, *other);
-                self.jump(program, label)
+            Ending::Switch { on, choices, other } => {
+                let target = self.chosen(on, choices, *other);
+                self.jump(program, target)
             }
-            End::Return(None) => self.leave(program, None),
-            End::Return(Some(operand)) => {
-                let value = self.value(program, operand);
-                self.leave(program, Some(value))
-            }
+            Ending::Return(from) => self.give_back(program, from),
         }
     }
 
-    /// The label that a switch leads to.
-    fn chosen(&self, program: &'t Indexed<'_>, on: &'t Operand, cases: &Cases, other: u64) -> u64
-        requires sound { IsSound program.now self.now }
-        requires limits { IsLimited program.now }
-        ensures { result ≡ case_for (any_number (value_of program.now.program.globals (scope_of (control_of program.now self.now.top)) self.now.world.registers.items on.now)) cases.now other }
+    /// A return.
+    fn give_back(&mut self, program: &Indexed<'t>, from: &Option<Source<'t>>) -> Reach
+        requires { IsSound program.now self.old }
+        ensures { Arrives program.now self.old.next result (returned (state_of program.now self.old) (source_result self.old.top.serial self.old.world.registers.items from.now) (state_of program.now self.old).below) self.new }
     {
-        target(
-            values::any(&self.value(program, on)),
-            cases.as_slice(),
-            other,
+        let value = self.returned_value(from);
+        self.leave(program, value)
+    }
+
+    /// A comparison in the running frame.
+    fn holds(&self, left: &Source<'t>, cmp: Cmp, right: &Source<'t>) -> bool
+        ensures { result ≡ compares (source_value self.now.top.serial self.now.world.registers.items left.now) cmp (source_value self.now.top.serial self.now.world.registers.items right.now) }
+    {
+        values::holds(
+            self.top.serial,
+            self.world.registers.as_slice(),
+            left,
+            cmp,
+            right,
         )
     }
 
-    /// One statement or end.
-    pub fn step(&mut self, alloc: Heap, program: &'t Indexed<'_>) -> Result<Step, OutOfMemory>
+    /// What a return gives.
+    fn returned_value(&self, from: &Option<Source<'t>>) -> Option<Value<'t>>
+        ensures { result ≡ source_result self.now.top.serial self.now.world.registers.items from.now }
+    {
+        match from {
+            Some(source) => Some(self.value(source)),
+            None => None,
+        }
+    }
+
+    /// The block that a switch leads to.
+    fn chosen(
+        &self,
+        on: &Source<'t>,
+        choices: &Listed<Choice>,
+        other: Option<usize>,
+    ) -> Option<usize>
+        ensures { result ≡ chosen (any_number (source_value self.now.top.serial self.now.world.registers.items on.now)) choices.now other }
+    {
+        target(values::any(&self.value(on)), choices.as_slice(), other)
+    }
+
+    /// One statement or end of the block where the run stands, whose lowered form is given.
+    fn step(
+        &mut self,
+        alloc: Heap,
+        program: &Indexed<'t>,
+        piece: &Piece<'t>,
+    ) -> Result<Step, OutOfMemory>
         requires sound { IsSound program.now self.old }
         requires limits { IsLimited program.now }
-        ensures { IfOk result (λ next. Leads program.now self.old.next next (step program.now (state_of program.now self.old)) self.new) }
+        requires piece { piece.now ≡ piece_of (names_at program.now self.old.top.function) (block_of (function_of program.now self.old.top.function) self.old.top.block) }
+        ensures leads { IfOk result (λ next. Leads program.now self.old.next next (step program.now (state_of program.now self.old)) self.new) }
+        ensures stays { IfOk result (λ next. Stays next self.old.top self.new.top) }
     {
-        let block = program.block_at(self.top.function, self.top.block);
-        let _count = block.body.len();
-        match block.body.get(self.top.index) {
-            None => Ok(Step::Reaches(self.finish(program, &block.end))),
+        let _count = piece.body.len();
+        match piece.body.get(self.top.index) {
+            None => Ok(Step::Reaches(self.finish(program, &piece.end))),
             Some(statement) => {
                 self.top.index += 1;
                 self.perform(alloc, program, statement)
@@ -306,33 +337,35 @@ impl<'t> Machine<'t> {
     }
 
     /// One statement.
+    #[tactic(auto, unfolding(gimple_lowered::specs::Meaning::performs))]
     fn perform(
         &mut self,
         alloc: Heap,
-        program: &'t Indexed<'_>,
-        statement: &'t Stmt,
+        program: &Indexed<'t>,
+        statement: &Instruction<'t>,
     ) -> Result<Step, OutOfMemory>
         requires sound { IsSound program.now self.old }
         requires limits { IsLimited program.now }
-        ensures { IfOk result (λ step. Leads program.now self.old.next step (perform program.now statement.now (state_of program.now self.old)) self.new) }
+        ensures leads { IfOk result (λ step. Leads program.now self.old.next step (performs program.now statement.now (state_of program.now self.old)) self.new) }
+        ensures stays { IfOk result (λ step. Stays step self.old.top self.new.top) }
     {
         match statement {
-            Stmt::Call {
+            Instruction::Call {
                 to,
                 callee,
                 arguments,
             } => {
-                let reach = self.call_named(alloc, program, to, callee, arguments.as_slice())?;
+                let reach = self.call_numbered(alloc, program, *to, *callee, arguments)?;
                 Ok(Step::Reaches(reach))
             }
-            Stmt::Indirect {
+            Instruction::Indirect {
                 to,
                 signature,
                 callee,
                 arguments,
             } => {
-                let operands = arguments.as_slice();
-                let reach = self.call_through(alloc, program, to, signature, callee, operands)?;
+                let signature = signature.signature();
+                let reach = self.call_through(alloc, program, *to, signature, *callee, arguments)?;
                 Ok(Step::Reaches(reach))
             }
             _ => self.act(alloc, program, statement),
@@ -343,28 +376,28 @@ impl<'t> Machine<'t> {
     fn act(
         &mut self,
         alloc: Heap,
-        program: &'t Indexed<'_>,
-        statement: &'t Stmt,
+        program: &Indexed<'t>,
+        statement: &Instruction<'t>,
     ) -> Result<Step, OutOfMemory>
         requires sound { IsSound program.now self.old }
-        requires limits { IsLimited program.now }
-        ensures { IfOk result (λ step. Leads program.now self.old.next step (acted (state_of program.now self.old) (act (setting_of program.now) (scope_of (control_of program.now self.old.top)) statement.now (world_of self.old.world))) self.new) }
+        ensures leads { IfOk result (λ step. Leads program.now self.old.next step (acted (state_of program.now self.old) (does program.now.mode self.old.top.serial statement.now (world_of self.old.world))) self.new) }
+        ensures stays { IfOk result (λ step. Stays step self.old.top self.new.top) }
     {
-        let scope = program.scope(self.top.function, self.top.serial);
-        match self.world.act(alloc, &scope, statement)? {
+        let frame = Frame {
+            mode: program.mode(),
+            serial: self.top.serial,
+        };
+        match self.world.act(alloc, frame, statement)? {
             Some(kind) => Ok(Step::Reaches(Reach::Traps(kind))),
             None => Ok(Step::Goes),
         }
     }
 
-    /// The value of an operand in the running frame.
-    fn value(&self, program: &'t Indexed<'_>, operand: &'t Operand) -> Value<'t>
-        requires sound { IsSound program.now self.now }
-        requires limits { IsLimited program.now }
-        ensures { result ≡ value_of program.now.program.globals (scope_of (control_of program.now self.now.top)) self.now.world.registers.items operand.now }
+    /// What is read in the running frame.
+    fn value(&self, from: &Source<'t>) -> Value<'t>
+        ensures { result ≡ source_value self.now.top.serial self.now.world.registers.items from.now }
     {
-        let scope = program.scope(self.top.function, self.top.serial);
-        values::operand(&scope, self.world.registers.as_slice(), operand)
+        values::source(self.top.serial, self.world.registers.as_slice(), from)
     }
 
     /// What the run has printed.
@@ -376,6 +409,7 @@ impl<'t> Machine<'t> {
             below: _,
             world,
             next: _,
+            spare: _,
         } = self;
         let World {
             registers: _,
@@ -388,13 +422,14 @@ impl<'t> Machine<'t> {
     }
 
     /// The statements up to the next transfer.
-    pub fn walk(&mut self, alloc: Heap, program: &'t Indexed<'_>) -> Result<Reach, OutOfMemory>
+    pub fn walk(&mut self, alloc: Heap, program: &Indexed<'t>) -> Result<Reach, OutOfMemory>
         requires sound { IsSound program.now self.old }
         requires limits { IsLimited program.now }
         ensures { IfOk result (λ reach. Arrives program.now self.old.next reach (walk program.now (state_of program.now self.old).top.rest (state_of program.now self.old)) self.new) }
     {
+        let piece = program.piece(self.top.function, self.top.block);
         loop {
-            match self.step(alloc, program)? {
+            match self.step(alloc, program, piece)? {
                 Step::Goes => {}
                 Step::Reaches(reach) => return Ok(reach),
             }
@@ -402,18 +437,31 @@ impl<'t> Machine<'t> {
     }
 }
 
-fn case_at(on: i128, cases: &[Case]) -> Option<&Case>
-    ensures { option_copied result ≡ find (λ c. cmp_of Cmp.Eq on c.value) cases.now }
-{
-    cases.iter().find(|c| eval_cmp(Cmp::Eq, on, c.value))
+/// A row for the registers of a frame.
+fn spare_row<'t>(alloc: Heap, rows: &mut Vec<Vec<Value<'t>>>) -> Vec<Value<'t>> {
+    match rows.pop() {
+        Some(row) => row,
+        None => Vec::new(alloc),
+    }
 }
 
-/// The label of the first case with this value.
-fn target(on: i128, cases: &[Case], other: u64) -> u64
-    ensures { result ≡ case_for on cases.now other }
+/// Keeps a row for a later frame, if there is memory for it.
+fn spare<'t>(rows: &mut Vec<Vec<Value<'t>>>, row: Vec<Value<'t>>) {
+    let _ = rows.push(row);
+}
+
+fn choice_at(on: i128, choices: &[Choice]) -> Option<&Choice>
+    ensures { option_copied result ≡ find (λ c. cmp_of Cmp.Eq on c.value) choices.now }
 {
-    match case_at(on, cases) {
-        Some(case) => case.target,
+    choices.iter().find(|c| eval_cmp(Cmp::Eq, on, c.value))
+}
+
+/// The block of the first choice with this value.
+fn target(on: i128, choices: &[Choice], other: Option<usize>) -> Option<usize>
+    ensures { result ≡ chosen on choices.now other }
+{
+    match choice_at(on, choices) {
+        Some(choice) => choice.target,
         None => other,
     }
 }
@@ -423,7 +471,7 @@ fn status(value: &Option<Value<'_>>) -> i32
     ensures { result ≡ status_of value.now }
 {
     match value {
-        Some(value) => values::number_of_value(Scalar::I32, value) as i32,
+        Some(value) => number_of_value(Scalar::I32, value) as i32,
         None => 0,
     }
 }

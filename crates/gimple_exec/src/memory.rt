@@ -8,11 +8,12 @@ ghost use Rattle.gimple_core.specs.Memory.{same_object, is_slot, found_at, found
 ghost use Rattle.gimple_core.specs.Run.{filled, item_value};
 
 use crate::extents::Extents;
+use crate::hints::{Hints, Spread};
 use crate::indexed::Indexed;
 use crate::slots::Slots;
 use crate::values;
 use gimple_core::{
-    Extent, FoundSlot, Layout, LayoutSlot, MemorySlot, Object, Operand, OutOfMemory, Scalar,
+    Decl, Extent, FoundSlot, Layout, LayoutSlot, MemorySlot, Object, Operand, OutOfMemory, Scalar,
     TrapKind, Value,
 };
 use name_tables::NamedGlobals;
@@ -23,6 +24,7 @@ use struct_tables::Structs;
 /// An access in an object that lives.
 fn found_in<'t>(
     slots: &Slots<'t>,
+    hints: &Hints,
     object: Object,
     offset: i64,
     scalar: Scalar,
@@ -37,7 +39,7 @@ fn found_in<'t>(
     if at >= extent.size {
         return Err(TrapKind::Bounds);
     }
-    match slots.found(object, at, scalar) {
+    match slots.found(object, at, scalar, hints.slot(object, at)) {
         Some(slot) => Ok(FoundSlot {
             object,
             offset: at,
@@ -53,14 +55,15 @@ fn found_in<'t>(
 fn found_by<'t>(
     living: &Extents,
     slots: &Slots<'t>,
+    hints: &Hints,
     pointer: &Value<'_>,
     scalar: Scalar,
 ) -> Result<FoundSlot<'t>, TrapKind>
     ensures { result ≡ found_at (record { living = living.now; slots = slots.now }) pointer.now scalar }
 {
     match pointer {
-        Value::At { object, offset } => match living.found(*object) {
-            Some(extent) => found_in(slots, *object, *offset, scalar, *extent),
+        Value::At { object, offset } => match living.found(*object, hints.object(*object)) {
+            Some(extent) => found_in(slots, hints, *object, *offset, scalar, *extent),
             None => Err(TrapKind::Dangling),
         },
         Value::Code(_) => Err(TrapKind::BadSlot),
@@ -120,6 +123,7 @@ fn item_values<'t>(
 pub struct Memory<'t> {
     living: Extents,
     slots: Slots<'t>,
+    hints: Hints,
 }
 
 impl<'t> Model for Memory<'t> {
@@ -134,7 +138,6 @@ impl<'t> Memory<'t> {
     ghost use Rattle.gimple_core.specs.Layout.{layout_of};
     ghost use Rattle.gimple_core.specs.Memory.{without_frame};
     ghost use Rattle.gimple_exec.specs.Machines.{function_of, IsLimited};
-    ghost use Rattle.gimple_exec.specs.Tables.{with_layouts};
     ghost use Rattle.gimple_core.specs.Run.{no_memory, with_object, with_locals, with_globals};
 
     /// No objects.
@@ -144,6 +147,7 @@ impl<'t> Memory<'t> {
         Memory {
             living: Extents::new(alloc),
             slots: Slots::new(alloc),
+            hints: Hints::new(alloc),
         }
     }
 
@@ -151,14 +155,21 @@ impl<'t> Memory<'t> {
     pub fn found(&self, pointer: &Value<'_>, scalar: Scalar) -> Result<FoundSlot<'t>, TrapKind>
         ensures { result ≡ found_at self.now pointer.now scalar }
     {
-        found_by(&self.living, &self.slots, pointer, scalar)
+        found_by(&self.living, &self.slots, &self.hints, pointer, scalar)
     }
 
     /// Puts a value into a slot.
     pub fn put(&mut self, object: Object, offset: u64, scalar: Scalar, value: Value<'t>)
         ensures { self.new ≡ record self.old { slots = put_slot self.old.slots object offset scalar value.entry } }
     {
-        self.slots.put(object, offset, scalar, value);
+        let guess = self.hints.slot(object, offset);
+        let slot = MemorySlot {
+            object,
+            offset,
+            scalar,
+            value,
+        };
+        self.slots.put(slot, guess);
     }
 
     /// Takes out the locals of a frame that has returned.
@@ -168,6 +179,7 @@ impl<'t> Memory<'t> {
     {
         self.living.leave(serial);
         self.slots.leave(serial);
+        self.hints.leave(serial, self.living.len());
     }
 
     fn add_object(
@@ -179,6 +191,12 @@ impl<'t> Memory<'t> {
     ) -> Result<(), OutOfMemory>
         ensures { OnOk result (self.new ≡ with_object self.old object layout.now constant values.now) }
     {
+        let spread = Spread {
+            first: self.slots.len(),
+            slots: layout.slots.len(),
+            size: layout.size,
+        };
+        self.hints.push(object, spread)?;
         self.living.push(Extent {
             object,
             size: layout.size,
@@ -187,23 +205,33 @@ impl<'t> Memory<'t> {
         fill(&mut self.slots, object, layout.slots.as_slice(), values)
     }
 
-    fn add_layouts(&mut self, layouts: &[Layout], serial: u64) -> Result<(), OutOfMemory>
-        requires { length layouts.now < 2 ^ 32 }
-        ensures { OnOk result (self.new ≡ with_layouts serial 0 layouts.now self.old) }
+    /// Adds these locals of a frame.
+    fn add_locals(
+        &mut self,
+        alloc: Heap,
+        structs: &Structs<'_>,
+        locals: &[Decl],
+        serial: u64,
+    ) -> Result<(), OutOfMemory>
+        requires few { length locals.now < 2 ^ 32 }
+        requires sizes { All (λ d. (layout_of structs.now d).size ≤ 2 ^ 24) locals.now }
+        ensures { OnOk result (self.new ≡ with_locals structs.now serial 0 locals.now self.old) }
     {
-        for k in 0..layouts.len() {
+        for k in 0..locals.len() {
+            let layout = structs.layout_of(alloc, &locals[k])?;
             let object = Object::Local {
                 serial,
                 number: k as u32,
             };
-            self.add_object(object, &layouts[k], false, &[])?;
+            self.add_object(object, &layout, false, &[])?;
         }
         Ok(())
     }
 
-    /// Adds the locals of a function's frame.
+    /// Adds the locals of a function's frame. Their slots are listed here, so a function that is not entered costs none.
     pub fn add_frame(
         &mut self,
+        alloc: Heap,
         program: &Indexed<'_>,
         function: usize,
         serial: u64,
@@ -212,11 +240,12 @@ impl<'t> Memory<'t> {
         requires within { function < length program.now.program.functions }
         ensures { OnOk result (self.new ≡ with_locals program.now.program.structs serial 0 (function_of program.now function).locals self.old) }
     {
-        self.add_layouts(program.layouts(function), serial)
+        let locals = program.function_at(function).locals.as_slice();
+        self.add_locals(alloc, program.structs(), locals, serial)
     }
 
     /// Adds the globals of a program.
-    pub fn add_program(&mut self, alloc: Heap, program: &'t Indexed<'_>) -> Result<(), OutOfMemory>
+    pub fn add_program(&mut self, alloc: Heap, program: &Indexed<'t>) -> Result<(), OutOfMemory>
         requires { IsLimited program.now }
         ensures { OnOk result (self.new ≡ with_globals program.now.program.structs program.now.program.globals 0 program.now.program.globals self.old) }
     {

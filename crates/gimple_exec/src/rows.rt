@@ -1,16 +1,19 @@
 //! Rows of what belongs to the objects that live, each behind those that came before it.
 
-ghost use Rattle.std.specs.Prelude.{◌≡◌, ◌++◌, ◌∷◌, [], find, filter, IsTrue, OnOk};
+ghost use Rattle.std.specs.Prelude.{◌≡◌, ◌++◌, ◌∷◌, [], true, Some, find, filter, IsTrue, IfSome, OnOk};
 ghost use Rattle.std.specs.Option.{option_copied};
 ghost use Rattle.gimple_core.specs.Memory.{is_elsewhere};
 ghost use Rattle.gimple_core.specs.Names.{update_first};
 ghost use Rattle.gimple_exec.specs.Order.{comes_before, IsOrdered, Follows, IsSplit, IsLatest};
-ghost use Rattle.gimple_exec.specs.Places.{IsPlace};
+ghost use Rattle.gimple_exec.specs.Places.{IsPlace, IsFirstAt};
 
 use crate::order::{elsewhere, precedes, rank};
 use gimple_core::{Object, OutOfMemory};
 use std::alloc::Global as Heap;
 use std::marker::Model;
+
+/// How far from a guess an item is sought.
+const STEPS: usize = 4;
 
 /// What belongs to an object, at an offset in it.
 pub trait Placed: Drop {
@@ -73,6 +76,71 @@ fn stays_ordered<T: Placed>(ordered: bool, items: &[T], item: &T) -> bool
         Some(last) => comes_before(last, item),
         None => true,
     }
+}
+
+/// Near a guess, where an item that is sought may stand.
+fn near<T: Placed>(items: &[T], sought: &T, guess: usize) -> usize {
+    let mut at = guess;
+    for _turn in 0..STEPS {
+        let Some(item) = items.get(at) else {
+            return at;
+        };
+        if comes_before(item, sought) {
+            at = at.saturating_add(1);
+        } else if comes_before(sought, item) {
+            at = at.saturating_sub(1);
+        } else {
+            return at;
+        }
+    }
+    at
+}
+
+/// The place of an item that is sought, if it is the one at this place, in a list in order.
+fn place_here<T: Placed>(items: &[T], sought: &T, at: usize) -> Option<usize>
+    requires { IsOrdered (comes_before T.object_of T.offset_of) items.now }
+    ensures { IfSome result (λ k. IsFirstAt (T.matches sought.now) items.now k) }
+{
+    if at >= items.len() {
+        return None;
+    }
+    if items[at].matches(sought) {
+        return Some(at);
+    }
+    None
+}
+
+/// The place of the first item that is sought, in a list in order, which is not the one at a guess.
+fn place_around<T: Placed>(items: &[T], sought: &T, guess: usize) -> Option<usize>
+    requires { IsOrdered (comes_before T.object_of T.offset_of) items.now }
+    ensures { IsPlace (T.matches sought.now) items.now result }
+{
+    match place_here(items, sought, near(items, sought, guess)) {
+        Some(at) => Some(at),
+        None => place_by_halves(items, sought),
+    }
+}
+
+/// The place of the first item that is sought, in a list in order.
+fn place_by_guess<T: Placed>(items: &[T], sought: &T, guess: usize) -> Option<usize>
+    requires { IsOrdered (comes_before T.object_of T.offset_of) items.now }
+    ensures { IsPlace (T.matches sought.now) items.now result }
+{
+    match place_here(items, sought, guess) {
+        Some(at) => Some(at),
+        None => place_around(items, sought, guess),
+    }
+}
+
+/// The item at a place of a list in order.
+fn item_in<T: Placed>(items: &[T], at: usize) -> Option<&T>
+    requires { IsOrdered (comes_before T.object_of T.offset_of) items.now }
+    ensures { IfSome result (λ x. (t : T) → T.matches t x.now ≡ true → find (T.matches t) items.now ≡ Some x.now) }
+{
+    if at >= items.len() {
+        return None;
+    }
+    Some(&items[at])
 }
 
 /// The place of the first item that is sought, in a list in order.
@@ -147,32 +215,48 @@ impl<T: Placed> Rows<T> {
         Ok(())
     }
 
-    /// The place of the first item that is sought.
-    fn place(&self, sought: &T) -> Option<usize>
+    /// The place of the first item that is sought, which may be near a guess.
+    pub fn place(&self, sought: &T, guess: usize) -> Option<usize>
         ensures { IsPlace (T.matches sought.now) self.now result }
     {
         if self.ordered {
-            place_by_halves(self.items.as_slice(), sought)
+            place_by_guess(self.items.as_slice(), sought, guess)
         } else {
             place_from_front(self.items.as_slice(), sought)
         }
     }
 
-    /// The first item that is sought.
-    pub fn found(&self, sought: &T) -> Option<&T>
+    /// The item at a place, if the list is in order: what it is sought by finds it first.
+    pub fn ordered_item(&self, at: usize) -> Option<&T>
+        ensures { IfSome result (λ x. (t : T) → T.matches t x.now ≡ true → find (T.matches t) self.now ≡ Some x.now) }
+    {
+        if self.ordered {
+            item_in(self.items.as_slice(), at)
+        } else {
+            None
+        }
+    }
+
+    /// How many items there are.
+    pub fn len(&self) -> usize {
+        self.items.len()
+    }
+
+    /// The first item that is sought, which may be near a guess.
+    pub fn found(&self, sought: &T, guess: usize) -> Option<&T>
         ensures { option_copied result ≡ find (T.matches sought.now) self.now }
     {
-        match self.place(sought) {
+        match self.place(sought, guess) {
             Some(at) => self.items.get(at),
             None => None,
         }
     }
 
-    /// Puts an item in the place of the first one that is found where it is sought, if there is one.
-    pub fn replace(&mut self, item: T)
+    /// Puts an item in the place of the first one that is found where it is sought, if there is one; it may be near a guess.
+    pub fn replace(&mut self, item: T, guess: usize)
         ensures { self.new ≡ update_first (T.matches item) (λ _. item) self.old }
     {
-        if let Some(at) = self.place(&item) {
+        if let Some(at) = self.place(&item, guess) {
             self.items[at] = item;
         }
     }

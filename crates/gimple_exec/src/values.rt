@@ -1,20 +1,26 @@
 //! Values, and what operands, places and operators make of them.
 
-ghost use Rattle.std.specs.Prelude.{◌≡◌, ◌<◌, ◌^◌, ◌+ℤ◌, length, IsTrue};
-ghost use Rattle.gimple_core.specs.Operators.{in_scalar, wrapped, IsWord, IsRightSide};
-ghost use Rattle.gimple_core.specs.Memory.{same_object, same_scalar, number_of, moved_by};
-ghost use Rattle.gimple_core.specs.State.{number_in, offset_in, zero_of};
-ghost use Rattle.gimple_core.specs.Run.{item_value, address_of, address_of_global, value_of, base_value, place_value, any_number, right_number, arith_of, compares, converted, same_pointer, pointers_compare, one_if};
-ghost use Rattle.gimple_exec.specs.Frames.{scope_in, IsNarrow};
+ghost use Rattle.std.specs.Prelude.{◌≡◌, ◌<◌, ◌^◌, ℕ, length, IsTrue, IfSome};
 ghost use Rattle.std.specs.Str.{bytes_eq};
+ghost use Rattle.gimple_core.specs.Operators.{in_scalar, wrapped, op_of, IsWord, IsRightSide};
+ghost use Rattle.gimple_core.specs.Memory.{same_object, same_scalar, number_of, moved_by};
+ghost use Rattle.gimple_core.specs.State.{zero_of, number_in, value_at};
+ghost use Rattle.gimple_core.specs.Run.{item_value, any_number, right_number, arith_of, compares, converted, same_pointer, one_if};
+ghost use Rattle.gimple_lowered.specs.Meaning.{source_value, pointer_value};
 
 use crate::registers;
-use crate::scope::Scope;
 use gimple_core::{
-    Base, Cmp, FunctionName, Mode, Object, Op, Operand, Place, Scalar, Text, TrapKind, Value,
-    eval_cmp, eval_op, fits, wrap,
+    Cmp, Mode, Object, Op, Operand, Scalar, TrapKind, Value, eval_cmp, eval_op, fits, wrap,
 };
+use gimple_lowered::{Pointer, Source, global_address, lies_in, move_by, number_of_value, offset};
 use name_tables::NamedGlobals;
+
+/// The mode of arithmetic, and the serial of the running frame.
+#[derive(Clone, Copy, Debug)]
+pub struct Frame {
+    pub mode: Mode,
+    pub serial: u64,
+}
 
 /// Whether two objects are the same.
 pub fn is_same_object(left: Object, right: Object) -> bool
@@ -59,40 +65,6 @@ pub fn is_same_scalar(left: Scalar, right: Scalar) -> bool
     number(left) == number(right)
 }
 
-fn moved(offset: i64, by: i128) -> i64
-    requires { IsWord by }
-    ensures { result ≡ wrapped Scalar.I64 (offset +ℤ by) }
-{
-    wrap(Scalar::I64, i128::from(offset) + by) as i64
-}
-
-/// A pointer moved by some bytes.
-#[tactic(auto, unfolding(gimple_core::specs::Memory::moved_by))]
-pub fn move_by<'t>(value: &Value<'t>, by: i128) -> Value<'t>
-    requires { IsWord by }
-    ensures { result ≡ moved_by value.now by }
-{
-    match value {
-        Value::At { object, offset } => Value::At {
-            object: *object,
-            offset: moved(*offset, by),
-        },
-        _ => value.again(),
-    }
-}
-
-/// A value as a number of a scalar.
-#[tactic(auto, unfolding(gimple_core::specs::State::number_in))]
-pub fn number_of_value(scalar: Scalar, value: &Value<'_>) -> i128
-    ensures value { result ≡ number_in scalar value.now }
-    ensures fits { IsTrue (in_scalar scalar result) }
-{
-    match value {
-        Value::Int(z) if fits(scalar, *z) => *z,
-        _ => 0,
-    }
-}
-
 /// A value as a number of any integer scalar.
 pub fn any(value: &Value<'_>) -> i128
     ensures value { result ≡ any_number value.now }
@@ -105,64 +77,55 @@ pub fn any(value: &Value<'_>) -> i128
     }
 }
 
-/// An offset as it is read.
-pub fn offset(value: i128) -> i128
-    ensures value { result ≡ offset_in value }
-    ensures word { IsWord result }
+/// A sum. One that lies in its scalar needs no look at the mode.
+#[tactic(auto, unfolding(gimple_core::specs::Operators::op_of))]
+fn sum(mode: Mode, scalar: Scalar, left: i128, right: i128) -> Result<i128, TrapKind>
+    requires left { IsTrue (in_scalar scalar left) }
+    requires right { IsTrue (in_scalar scalar right) }
+    ensures { result ≡ op_of mode Op.Add scalar left right }
 {
-    number_of_value(Scalar::I64, &Value::Int(value))
-}
-
-/// The address of a global, or the function of a name that no global has.
-#[tactic(auto, unfolding(gimple_core::specs::Run::address_of_global))]
-pub fn global_address<'t>(globals: &NamedGlobals<'_>, name: &'t Text) -> Value<'t>
-    requires { length globals.now < 2 ^ 32 }
-    ensures { result ≡ address_of_global globals.now name.now }
-{
-    match globals.place(name) {
-        Some(k) => Value::At {
-            object: Object::Global(k as u32),
-            offset: 0,
-        },
-        None => Value::Code(FunctionName::new(name.as_slice())),
+    let value = left + right;
+    if lies_in(scalar, value) {
+        return Ok(value);
     }
+    eval_op(mode, Op::Add, scalar, left, right)
 }
 
-fn right_side(op: Op, scalar: Scalar, value: &Value<'_>) -> i128
-    ensures value { result ≡ right_number op scalar value.now }
-    ensures fits { IsRightSide op scalar result }
+/// A difference. One that lies in its scalar needs no look at the mode.
+#[tactic(auto, unfolding(gimple_core::specs::Operators::op_of))]
+fn difference(mode: Mode, scalar: Scalar, left: i128, right: i128) -> Result<i128, TrapKind>
+    requires left { IsTrue (in_scalar scalar left) }
+    requires right { IsTrue (in_scalar scalar right) }
+    ensures { result ≡ op_of mode Op.Sub scalar left right }
+{
+    let value = left - right;
+    if lies_in(scalar, value) {
+        return Ok(value);
+    }
+    eval_op(mode, Op::Sub, scalar, left, right)
+}
+
+/// An operator on two numbers of a scalar.
+fn operate(mode: Mode, op: Op, scalar: Scalar, left: i128, right: i128) -> Result<i128, TrapKind>
+    requires left { IsTrue (in_scalar scalar left) }
+    requires right { IsRightSide op scalar right }
+    ensures { result ≡ op_of mode op scalar left right }
 {
     match op {
-        Op::Shl | Op::Shr => any(value),
-        _ => number_of_value(scalar, value),
+        Op::Add => sum(mode, scalar, left, right),
+        Op::Sub => difference(mode, scalar, left, right),
+        _ => eval_op(mode, op, scalar, left, right),
     }
 }
 
-/// An operator with a result of a scalar.
-#[tactic(auto, unfolding(gimple_core::specs::Run::arith_of))]
-pub fn arith<'t>(
-    mode: Mode,
-    scalar: Scalar,
-    left: &Value<'t>,
-    op: Op,
-    right: &Value<'_>,
-) -> Result<Value<'t>, TrapKind>
-    ensures { result ≡ arith_of mode scalar left.now op right.now }
+/// A number wrapped into a scalar, which one that lies in it is already.
+fn wrapped(scalar: Scalar, value: i128) -> i128
+    ensures { result ≡ wrapped scalar value }
 {
-    if let Scalar::Ptr = scalar {
-        return Ok(move_by(left, any(right)));
+    if lies_in(scalar, value) {
+        return value;
     }
-    let found = eval_op(
-        mode,
-        op,
-        scalar,
-        number_of_value(scalar, left),
-        right_side(op, scalar, right),
-    );
-    match found {
-        Ok(z) => Ok(Value::Int(z)),
-        Err(kind) => Err(kind),
-    }
+    wrap(scalar, value)
 }
 
 /// Whether two names are the same.
@@ -192,26 +155,11 @@ fn is_same_pointer(left: &Value<'_>, right: &Value<'_>) -> bool
     }
 }
 
-/// A comparison of two values.
-#[tactic(auto, unfolding(gimple_core::specs::Run::compares))]
-pub fn compare(left: &Value<'_>, cmp: Cmp, right: &Value<'_>) -> bool
-    ensures { result ≡ compares left.now cmp right.now }
-{
-    if let (Value::Int(a), Value::Int(b)) = (left, right) {
-        return eval_cmp(cmp, *a, *b);
-    }
-    match cmp {
-        Cmp::Eq => is_same_pointer(left, right),
-        Cmp::Ne => !is_same_pointer(left, right),
-        _ => false,
-    }
-}
-
 /// A value converted to a scalar.
 pub fn convert<'t>(scalar: Scalar, value: &Value<'_>) -> Value<'t>
     ensures { result ≡ converted scalar value.now }
 {
-    Value::Int(wrap(scalar, any(value)))
+    Value::Int(wrapped(scalar, any(value)))
 }
 
 /// The value of an item of a global; a register is none.
@@ -240,50 +188,194 @@ pub fn zero<'t>(scalar: Scalar) -> Value<'t>
     }
 }
 
-/// The address of a variable that a frame sees, or the function of a name that no variable has.
-#[tactic(auto, unfolding(gimple_core::specs::Run::address_of))]
-pub fn address<'t>(scope: &Scope<'_>, name: &'t Text) -> Value<'t>
-    requires { IsNarrow scope.now }
-    ensures { result ≡ address_of scope.now.globals.now (scope_in scope.now) name.now }
-{
-    match scope.locals.place(name) {
-        Some(k) => Value::At {
-            object: Object::Local {
-                serial: scope.serial,
-                number: k as u32,
-            },
-            offset: 0,
-        },
-        None => global_address(scope.globals, name),
-    }
-}
-
-/// The value of an operand.
-pub fn operand<'t>(scope: &Scope<'_>, registers: &[Value<'t>], from: &'t Operand) -> Value<'t>
-    requires { IsNarrow scope.now }
-    ensures { result ≡ value_of scope.now.globals.now (scope_in scope.now) registers.now from.now }
+/// What is read, in a frame of this serial.
+pub fn source<'t>(serial: u64, registers: &[Value<'t>], from: &Source<'t>) -> Value<'t>
+    ensures { result ≡ source_value serial registers.now from.now }
 {
     match from {
-        Operand::Reg(name) => registers::value(scope, registers, name),
-        Operand::Number(z) => Value::Int(*z),
-        Operand::Null => Value::Null,
-        Operand::Address {
-            variable,
-            offset: by,
-        } => { move_by(&address(scope, variable), offset(*by)) }
+        Source::Register(at) => registers::value_at(registers, *at),
+        Source::Constant(value) => value.again(),
+        Source::Own { number, offset } => Value::At {
+            object: Object::Local {
+                serial,
+                number: *number,
+            },
+            offset: *offset,
+        },
     }
 }
 
-/// Where a place points.
-pub fn pointer<'t>(scope: &Scope<'_>, registers: &[Value<'t>], place: &'t Place) -> Value<'t>
-    requires { IsNarrow scope.now }
-    ensures { result ≡ place_value scope.now.globals.now (scope_in scope.now) registers.now place.now }
+/// Where an access goes, in a frame of this serial.
+pub fn pointer<'t>(serial: u64, registers: &[Value<'t>], pointer: &Pointer<'t>) -> Value<'t>
+    ensures { result ≡ pointer_value serial registers.now pointer.now }
 {
-    let base = match &place.base {
-        Base::Reg(name) => registers::value(scope, registers, name),
-        Base::Variable(name) => address(scope, name),
+    match pointer {
+        Pointer::Moved { register, by } => {
+            move_by(&registers::value_at(registers, *register), i128::from(*by))
+        }
+        Pointer::Fixed(at) => source(serial, registers, at),
+    }
+}
+
+/// The value that is read, where it is one that stands somewhere.
+fn held<'r, 't>(registers: &'r [Value<'t>], from: &'r Source<'t>) -> Option<&'r Value<'t>>
+    ensures { IfSome result (λ v. (serial : ℕ) → source_value serial registers.now from.now ≡ v.now) }
+{
+    match from {
+        Source::Register(Some(at)) => match registers.get(*at) {
+            Some(value) => Some(value),
+            None => None,
+        },
+        Source::Constant(value) => Some(value),
+        _ => None,
+    }
+}
+
+fn number_of_source<'t>(
+    serial: u64,
+    registers: &[Value<'t>],
+    from: &Source<'t>,
+    scalar: Scalar,
+) -> i128
+    ensures value { result ≡ number_in scalar (source_value serial registers.now from.now) }
+    ensures fits { IsTrue (in_scalar scalar result) }
+{
+    number_of_value(scalar, &source(serial, registers, from))
+}
+
+/// What is read as a number of a scalar, in a frame of this serial.
+fn number_read<'t>(serial: u64, registers: &[Value<'t>], from: &Source<'t>, scalar: Scalar) -> i128
+    ensures value { result ≡ number_in scalar (source_value serial registers.now from.now) }
+    ensures fits { IsTrue (in_scalar scalar result) }
+{
+    match held(registers, from) {
+        Some(value) => number_of_value(scalar, value),
+        None => number_of_source(serial, registers, from, scalar),
+    }
+}
+
+fn right_side<'t>(
+    serial: u64,
+    registers: &[Value<'t>],
+    op: Op,
+    scalar: Scalar,
+    from: &Source<'t>,
+) -> i128
+    ensures value { result ≡ right_number op scalar (source_value serial registers.now from.now) }
+    ensures fits { IsRightSide op scalar result }
+{
+    match op {
+        Op::Shl | Op::Shr => any(&source(serial, registers, from)),
+        _ => number_read(serial, registers, from, scalar),
+    }
+}
+
+fn move_by_value<'t>(left: &Value<'t>, right: &Value<'_>) -> Value<'t>
+    ensures { result ≡ moved_by left.now (any_number right.now) }
+{
+    move_by(left, any(right))
+}
+
+fn moved_values<'t>(
+    serial: u64,
+    registers: &[Value<'t>],
+    left: &Source<'t>,
+    right: &Source<'t>,
+) -> Value<'t>
+    ensures { result ≡ moved_by (source_value serial registers.now left.now) (any_number (source_value serial registers.now right.now)) }
+{
+    let left = source(serial, registers, left);
+    let right = source(serial, registers, right);
+    move_by_value(&left, &right)
+}
+
+/// A pointer moved by what is read.
+fn moved<'t>(
+    serial: u64,
+    registers: &[Value<'t>],
+    left: &Source<'t>,
+    right: &Source<'t>,
+) -> Value<'t>
+    ensures { result ≡ moved_by (source_value serial registers.now left.now) (any_number (source_value serial registers.now right.now)) }
+{
+    let Some(a) = held(registers, left) else {
+        return moved_values(serial, registers, left, right);
     };
-    move_by(&base, offset(place.offset))
+    let Some(b) = held(registers, right) else {
+        return moved_values(serial, registers, left, right);
+    };
+    move_by_value(a, b)
+}
+
+/// An operator with a result of a scalar.
+#[tactic(auto, unfolding(gimple_core::specs::Run::arith_of))]
+pub fn arith<'t>(
+    frame: Frame,
+    registers: &[Value<'t>],
+    scalar: Scalar,
+    left: &Source<'t>,
+    op: Op,
+    right: &Source<'t>,
+) -> Result<Value<'t>, TrapKind>
+    ensures { result ≡ arith_of frame.mode scalar (source_value frame.serial registers.now left.now) op (source_value frame.serial registers.now right.now) }
+{
+    if let Scalar::Ptr = scalar {
+        return Ok(moved(frame.serial, registers, left, right));
+    }
+    let left = number_read(frame.serial, registers, left, scalar);
+    let right = right_side(frame.serial, registers, op, scalar, right);
+    match operate(frame.mode, op, scalar, left, right) {
+        Ok(z) => Ok(Value::Int(z)),
+        Err(kind) => Err(kind),
+    }
+}
+
+/// A comparison of two values.
+#[tactic(auto, unfolding(gimple_core::specs::Run::compares))]
+fn compare(left: &Value<'_>, cmp: Cmp, right: &Value<'_>) -> bool
+    ensures { result ≡ compares left.now cmp right.now }
+{
+    if let (Value::Int(a), Value::Int(b)) = (left, right) {
+        return eval_cmp(cmp, *a, *b);
+    }
+    match cmp {
+        Cmp::Eq => is_same_pointer(left, right),
+        Cmp::Ne => !is_same_pointer(left, right),
+        _ => false,
+    }
+}
+
+fn compare_values<'t>(
+    serial: u64,
+    registers: &[Value<'t>],
+    left: &Source<'t>,
+    cmp: Cmp,
+    right: &Source<'t>,
+) -> bool
+    ensures { result ≡ compares (source_value serial registers.now left.now) cmp (source_value serial registers.now right.now) }
+{
+    let left = source(serial, registers, left);
+    let right = source(serial, registers, right);
+    compare(&left, cmp, &right)
+}
+
+/// A comparison of what is read, in a frame of this serial.
+pub fn holds<'t>(
+    serial: u64,
+    registers: &[Value<'t>],
+    left: &Source<'t>,
+    cmp: Cmp,
+    right: &Source<'t>,
+) -> bool
+    ensures { result ≡ compares (source_value serial registers.now left.now) cmp (source_value serial registers.now right.now) }
+{
+    let Some(a) = held(registers, left) else {
+        return compare_values(serial, registers, left, cmp, right);
+    };
+    let Some(b) = held(registers, right) else {
+        return compare_values(serial, registers, left, cmp, right);
+    };
+    compare(a, cmp, b)
 }
 
 /// 1 or 0.

@@ -3,14 +3,16 @@
 ghost use Rattle.std.specs.Prelude.{◌≡◌, IfOk, OnOk, slice_get, Ok, Err, string_bytes};
 ghost use Rattle.std.specs.Fmt.{signed_decimal};
 ghost use Rattle.gimple_core.specs.Operators.{IsWord};
-ghost use Rattle.gimple_core.specs.Run.{act, assign, assign_result, loaded, stored, got, put};
+ghost use Rattle.gimple_core.specs.Memory.{found_at};
+ghost use Rattle.gimple_core.specs.Run.{stored, put, arith_of, compares, one_if, converted};
+ghost use Rattle.gimple_lowered.specs.Meaning.{source_value, pointer_value, assign, assign_result, loaded, got, does};
 ghost use Rattle.gimple_exec.specs.Acts.{world_of, Acts};
-ghost use Rattle.gimple_exec.specs.Frames.{scope_in, setting_in, IsNarrow};
 
 use crate::memory::Memory;
-use crate::scope::Scope;
+use crate::values::Frame;
 use crate::{registers, values};
-use gimple_core::{FoundSlot, Listed, Operand, OutOfMemory, Scalar, Stmt, Text, TrapKind, Value};
+use gimple_core::{Cmp, FoundSlot, Listed, Op, OutOfMemory, Scalar, Text, TrapKind, Value};
+use gimple_lowered::{Instruction, Pointer, Source};
 use std::alloc::Global as Heap;
 
 /// What a statement that is no call can change.
@@ -36,23 +38,22 @@ pub fn number_text(alloc: Heap, number: i128) -> Result<String, OutOfMemory>
 }
 
 impl<'a> World<'a> {
-    fn assign(&mut self, scope: &Scope<'_>, to: &Text, value: Value<'a>)
-        ensures { world_of self.new ≡ assign (scope_in scope.now) (world_of self.old) to.now value.entry }
+    fn assign(&mut self, to: Option<usize>, value: Value<'a>)
+        ensures { world_of self.new ≡ assign (world_of self.old) to value.entry }
     {
-        registers::assign(scope, &mut self.registers, to, value);
+        registers::put(&mut self.registers, to, value);
     }
 
     fn assign_result(
         &mut self,
-        scope: &Scope<'_>,
-        to: &Text,
+        to: Option<usize>,
         found: Result<Value<'a>, TrapKind>,
     ) -> Option<TrapKind>
-        ensures { Acts self.old result (assign_result (scope_in scope.now) (world_of self.old) to.now found.entry) self.new }
+        ensures { Acts self.old result (assign_result (world_of self.old) to found.entry) self.new }
     {
         match found {
             Ok(value) => {
-                self.assign(scope, to, value);
+                self.assign(to, value);
                 None
             }
             Err(kind) => Some(kind),
@@ -61,15 +62,14 @@ impl<'a> World<'a> {
 
     fn load(
         &mut self,
-        scope: &Scope<'_>,
-        to: &Text,
+        to: Option<usize>,
         found: Result<FoundSlot<'a>, TrapKind>,
     ) -> Option<TrapKind>
-        ensures { Acts self.old result (loaded (scope_in scope.now) (world_of self.old) to.now found.entry) self.new }
+        ensures { Acts self.old result (loaded (world_of self.old) to found.entry) self.new }
     {
         match found {
             Ok(at) => {
-                self.assign(scope, to, at.value);
+                self.assign(to, at.value);
                 None
             }
             Err(kind) => Some(kind),
@@ -94,17 +94,17 @@ impl<'a> World<'a> {
         }
     }
 
-    fn get(&mut self, scope: &Scope<'_>, to: &Text)
-        ensures { world_of self.new ≡ got (scope_in scope.now) (world_of self.old) to.now (slice_get self.old.input self.old.taken) }
+    fn get(&mut self, to: Option<usize>)
+        ensures { world_of self.new ≡ got (world_of self.old) to (slice_get self.old.input self.old.taken) }
     {
         let _count = self.input.len();
         match self.input.get(self.taken) {
             Some(number) => {
                 let value = Value::Int(i128::from(*number));
-                self.assign(scope, to, value);
+                self.assign(to, value);
                 self.taken += 1;
             }
-            None => self.assign(scope, to, Value::Int(0)),
+            None => self.assign(to, Value::Int(0)),
         }
     }
 
@@ -117,80 +117,143 @@ impl<'a> World<'a> {
         Ok(())
     }
 
+    fn copy(&mut self, serial: u64, to: Option<usize>, from: &Source<'a>)
+        ensures { world_of self.new ≡ assign (world_of self.old) to (source_value serial self.old.registers.items from.now) }
+    {
+        let value = values::source(serial, self.registers.as_slice(), from);
+        self.assign(to, value);
+    }
+
+    fn arith(
+        &mut self,
+        frame: Frame,
+        to: Option<usize>,
+        scalar: Scalar,
+        left: &Source<'a>,
+        op: Op,
+        right: &Source<'a>,
+    ) -> Option<TrapKind>
+        ensures { Acts self.old result (assign_result (world_of self.old) to (arith_of frame.mode scalar (source_value frame.serial self.old.registers.items left.now) op (source_value frame.serial self.old.registers.items right.now))) self.new }
+    {
+        let found = values::arith(frame, self.registers.as_slice(), scalar, left, op, right);
+        self.assign_result(to, found)
+    }
+
+    fn compare(
+        &mut self,
+        serial: u64,
+        to: Option<usize>,
+        left: &Source<'a>,
+        cmp: Cmp,
+        right: &Source<'a>,
+    )
+        ensures { world_of self.new ≡ assign (world_of self.old) to (one_if (compares (source_value serial self.old.registers.items left.now) cmp (source_value serial self.old.registers.items right.now))) }
+    {
+        let holds = values::holds(serial, self.registers.as_slice(), left, cmp, right);
+        self.assign(to, values::truth(holds));
+    }
+
+    fn convert(&mut self, serial: u64, to: Option<usize>, scalar: Scalar, from: &Source<'a>)
+        ensures { world_of self.new ≡ assign (world_of self.old) to (converted scalar (source_value serial self.old.registers.items from.now)) }
+    {
+        let value = values::source(serial, self.registers.as_slice(), from);
+        self.assign(to, values::convert(scalar, &value));
+    }
+
+    fn load_from(
+        &mut self,
+        serial: u64,
+        to: Option<usize>,
+        scalar: Scalar,
+        pointer: &Pointer<'a>,
+    ) -> Option<TrapKind>
+        ensures { Acts self.old result (loaded (world_of self.old) to (found_at self.old.memory (pointer_value serial self.old.registers.items pointer.now) scalar)) self.new }
+    {
+        let pointer = values::pointer(serial, self.registers.as_slice(), pointer);
+        let found = self.memory.found(&pointer, scalar);
+        self.load(to, found)
+    }
+
+    fn store_to(
+        &mut self,
+        serial: u64,
+        scalar: Scalar,
+        pointer: &Pointer<'a>,
+        from: &Source<'a>,
+    ) -> Option<TrapKind>
+        ensures { Acts self.old result (stored (world_of self.old) scalar (source_value serial self.old.registers.items from.now) (found_at self.old.memory (pointer_value serial self.old.registers.items pointer.now) scalar)) self.new }
+    {
+        let registers = self.registers.as_slice();
+        let pointer = values::pointer(serial, registers, pointer);
+        let value = values::source(serial, registers, from);
+        let found = self.memory.found(&pointer, scalar);
+        self.store(scalar, value, found)
+    }
+
+    fn put_from(&mut self, alloc: Heap, serial: u64, from: &Source<'a>) -> Result<(), OutOfMemory>
+        ensures { OnOk result (world_of self.new ≡ put (world_of self.old) (source_value serial self.old.registers.items from.now)) }
+    {
+        let value = values::source(serial, self.registers.as_slice(), from);
+        self.put(alloc, &value)
+    }
+
     /// What a statement that is no call does.
-    #[tactic(auto, unfolding(gimple_core::specs::Run::act))]
+    #[tactic(auto, unfolding(gimple_lowered::specs::Meaning::does))]
     pub fn act(
         &mut self,
         alloc: Heap,
-        scope: &Scope<'_>,
-        statement: &'a Stmt,
+        frame: Frame,
+        statement: &Instruction<'a>,
     ) -> Result<Option<TrapKind>, OutOfMemory>
-        requires { IsNarrow scope.now }
-        ensures { IfOk result (λ trap. Acts self.old trap (act (setting_in scope.now) (scope_in scope.now) statement.now (world_of self.old)) self.new) }
+        ensures { IfOk result (λ trap. Acts self.old trap (does frame.mode frame.serial statement.now (world_of self.old)) self.new) }
     {
+        let serial = frame.serial;
         match statement {
-            Stmt::Copy { to, from } => {
-                let value = values::operand(scope, self.registers.as_slice(), from);
-                self.assign(scope, to, value);
+            Instruction::Copy { to, from } => {
+                self.copy(serial, *to, from);
                 Ok(None)
             }
-            Stmt::Arith {
+            Instruction::Arith {
                 to,
+                scalar,
                 left,
                 op,
                 right,
-            } => {
-                let registers = self.registers.as_slice();
-                let left = values::operand(scope, registers, left);
-                let right = values::operand(scope, registers, right);
-                let scalar = registers::scalar(scope, to);
-                let result = values::arith(scope.mode, scalar, &left, *op, &right);
-                Ok(self.assign_result(scope, to, result))
-            }
-            Stmt::Compare {
+            } => Ok(self.arith(frame, *to, *scalar, left, *op, right)),
+            Instruction::Compare {
                 to,
                 left,
                 cmp,
                 right,
             } => {
-                let registers = self.registers.as_slice();
-                let left = values::operand(scope, registers, left);
-                let right = values::operand(scope, registers, right);
-                let holds = values::compare(&left, *cmp, &right);
-                self.assign(scope, to, values::truth(holds));
+                self.compare(serial, *to, left, *cmp, right);
                 Ok(None)
             }
-            Stmt::Convert { to, scalar, from } => {
-                let value = values::operand(scope, self.registers.as_slice(), from);
-                self.assign(scope, to, values::convert(*scalar, &value));
+            Instruction::Convert { to, scalar, from } => {
+                self.convert(serial, *to, *scalar, from);
                 Ok(None)
             }
-            Stmt::Load { to, scalar, place } => {
-                let pointer = values::pointer(scope, self.registers.as_slice(), place);
-                let found = self.memory.found(&pointer, *scalar);
-                Ok(self.load(scope, to, found))
-            }
-            Stmt::Store {
+            Instruction::Load {
+                to,
                 scalar,
-                place,
+                pointer,
+            } => Ok(self.load_from(serial, *to, *scalar, pointer)),
+            Instruction::Store {
+                scalar,
+                pointer,
                 from,
-            } => {
-                let registers = self.registers.as_slice();
-                let pointer = values::pointer(scope, registers, place);
-                let value = values::operand(scope, registers, from);
-                let found = self.memory.found(&pointer, *scalar);
-                Ok(self.store(*scalar, value, found))
-            }
-            Stmt::Get { to } => {
-                self.get(scope, to);
+            } => Ok(self.store_to(serial, *scalar, pointer, from)),
+            Instruction::Get { to } => {
+                self.get(*to);
                 Ok(None)
             }
-            Stmt::Put { from } => {
-                let value = values::operand(scope, self.registers.as_slice(), from);
-                self.put(alloc, &value)?;
+            Instruction::Put { from } => {
+                self.put_from(alloc, serial, from)?;
                 Ok(None)
             }
-            Stmt::Call { .. } | Stmt::Indirect { .. } | Stmt::Abort => Ok(Some(TrapKind::Abort)),
+            Instruction::Call { .. } | Instruction::Indirect { .. } | Instruction::Abort => {
+                Ok(Some(TrapKind::Abort))
+            }
         }
     }
 }

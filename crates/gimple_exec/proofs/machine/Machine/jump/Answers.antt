@@ -1,8 +1,13 @@
-use Rattle.gimple_exec.proofs.MachineLemmas.{jump_some, jump_none}
+use Rattle.std.proofs.Common.{arith}
+use Rattle.gimple_exec.proofs.MachineLemmas.{goes_some, goes_past}
 use Rattle.gimple_exec.proofs.machine.Machine.jump.Goals as goal
 
-pub returns-in-Some : goal.returns-in-Some
-returns-in-Some c = jump_some c.args.program.now c.args.self.now c.args.label c.in-Some.k c.in-Some.ensures c.requires
+pub returns : goal.returns
+returns c =
+    let count = c.block_count.ensures in
+    rw c.in-Some.is (goes_some c.args.program.now c.args.self.now c.in-Some.k (omega (arith, count)) c.requires)
 
-pub returns-in-None : goal.returns-in-None
-returns-in-None c = jump_none c.args.program.now c.args.self.now c.args.label c.in-None.ensures
+pub returns-then-k-block_count : goal.returns-then-k-block_count
+returns-then-k-block_count c =
+    let count = c.block_count.ensures in
+    rw c.in-Some.is (goes_past c.args.program.now c.args.self.now c.in-Some.k (omega (arith, count)))

@@ -1,17 +1,17 @@
 use Rattle.std.specs.Prelude.{IfOk}
 use Rattle.std.proofs.Common.{subst, sym}
 use Rattle.gimple_exec.specs.Machines.{Leads, ArrivesBy}
-use Rattle.gimple_exec.proofs.StepLemmas.{step_end, step_stmt}
+use Rattle.gimple_exec.proofs.StepLemmas.{step_ends, step_does}
 use Rattle.gimple_exec.proofs.machine.Machine.step.Goals as goal
 
-pub returns-in-None : goal.returns-in-None
-returns-in-None c =
+pub returns-in-None-clause-leads : goal.returns-in-None-clause-leads
+returns-in-None-clause-leads c =
     subst (λ d. ArrivesBy c.args.program.now c.args.self.now.next c.finish.result d c.finish.new.self)
-    (sym (step_end c.args.program.now c.args.self.now c.block_at-block.result.now c.block_at-block.ensures (sym c.in-None.ensures.value)))
+    (sym (step_ends c.args.program.now c.args.self.now c.args.piece.now c.requires.piece (sym c.in-None.ensures.value)))
     c.finish.ensures
 
-pub returns-in-Some : goal.returns-in-Some
-returns-in-Some c =
+pub returns-in-Some-clause-leads : goal.returns-in-Some-clause-leads
+returns-in-Some-clause-leads c =
     subst (λ d. IfOk c.perform.result (λ next. Leads c.args.program.now c.args.self.now.next next d c.perform.new.self))
-    (sym (step_stmt c.args.program.now c.args.self.now c.block_at-block.result.now _ c.block_at-block.ensures (sym c.in-Some.ensures.value)))
-    c.perform.ensures
+    (sym (step_does c.args.program.now c.args.self.now c.args.piece.now _ c.requires.piece (sym c.in-Some.ensures.value)))
+    c.perform.ensures.leads

@@ -8,6 +8,8 @@ invariant-loop-reach l = record {
   walk : walk l.program (state_of l.program l.fn.self).top.rest (state_of l.program l.fn.self) ≡ walk l.program (state_of l.program l.self).top.rest (state_of l.program l.self);
   sound : IsSound l.program l.self;
   next : l.self.next ≡ l.fn.self.next;
+  function : l.self.top.function ≡ l.fn.self.top.function;
+  block : l.self.top.block ≡ l.fn.self.top.block;
 }
 
 abbrev pub decreases-loop-reach : goal.decreases-loop-reach
