@@ -1,5 +1,5 @@
--- A program with one function folded has no type fault.
-use Rattle.std.proofs.Common.{◌≡◌, ℕ, zero, suc, ◌+◌, ◌==◌, ℤ, Bool, true, false, not, cond, ◌||◌, if◌then◌else◌, List, [], ◌∷◌, ◌++◌, map, length, refl, sym, ◌∙◌, ap, subst, arith, Option, Some, None, Ok, slice_get, slice_set}
+-- A program with its functions folded has no type fault.
+use Rattle.std.proofs.Common.{◌≡◌, ℕ, zero, suc, ◌+◌, ◌==◌, ℤ, Bool, true, false, not, cond, ◌||◌, if◌then◌else◌, List, [], ◌∷◌, ◌++◌, map, length, refl, sym, ◌∙◌, ap, subst, arith, Option, Some, None, Ok, slice_get}
 use Rattle.std.specs.Prelude.{is_some}
 use Rattle.std.specs.List.{find, list_any}
 use Rattle.std.specs.Str.{bytes_eq}
@@ -11,7 +11,7 @@ use Rattle.gimple_ir.specs.declared.block.Block.{Block}
 use Rattle.gimple_ir.specs.declared.block.End.{End}
 use Rattle.gimple_ir.specs.declared.program.Function.{Function}
 use Rattle.gimple_ir.specs.declared.program.Program.{Program}
-use Rattle.gimple_core.specs.Sealed.{Sealed}
+use Rattle.gimple_core.specs.Sealed.{Sealed, with_functions}
 use Rattle.gimple_ir.specs.declared.fault.Site.TheVariants as site
 use Rattle.gimple_core.specs.Run.{main_name}
 use Rattle.gimple_core.specs.Verdict.{demand, at}
@@ -31,17 +31,19 @@ use Rattle.fix_engine.specs.declared.lifted.Lifted.{Lifted}
 use Rattle.fix_engine.specs.declared.lifted.Lifted.TheVariants.{NotReached, Reached}
 use Rattle.value_domain.specs.declared.abs_val.AbsVal.{AbsVal}
 use Rattle.body_values.specs.declared.facts.Facts.{Facts}
-use Rattle.body_values.specs.Flow.{block_place, place_or, body_of, values_at}
+use Rattle.block_flow.specs.Branches.{block_place, place_or}
+use Rattle.body_values.specs.Flow.{body_of, values_at}
 use Rattle.body_fold.specs.Fold.{Folding, stmt_at, end_at, new_stmt, new_end, IsLinked, first, linked}
-use Rattle.body_fold.specs.Claims.{replaced, FoldIsAccepted}
+use Rattle.body_values.specs.Found.{Found}
+use Rattle.body_fold.specs.Claims.{FoldsTo, FoldsAreAccepted}
 use Rattle.body_fold.proofs.FoldsBy.{folding_of, FoldsBy, folds_by}
-use Rattle.body_fold.proofs.Names.{Parts, parts, function_at}
+use Rattle.body_fold.proofs.Names.{Parts, parts}
 use Rattle.body_fold.proofs.Relabelled.{seen_with, SameTargets, statement_seen, heads_of, SameHeads, statement_heads, same_targets, globals_same, own_labels, own_seen, function_seen}
 use Rattle.gimple_claims.proofs.Checked.{sees, blocks_pass}
 use Rattle.body_fold.proofs.Passing.{stmt_passes, end_passes, LabelsPass, ending_listed, ending_seen}
 use Rattle.body_fold.proofs.Labels.{block_number, block_listed, labels_kept}
 
--- ---- one function replaced by one that looks alike from outside
+-- ---- functions replaced by ones that look alike from outside
 
 record Face : Type 0 where
   name : List ℕ
@@ -65,10 +67,14 @@ Alike fs gs = map face fs ≡ map face gs
 heads_same : (f g : Function) (fs gs : List Function) → Alike (f ∷ fs) (g ∷ gs) → face f ≡ face g
 heads_same f g fs gs e = ap (first_face (face f)) e
 
-set_faces : (fs : List Function) (n : ℕ) (f g : Function) → slice_get fs n ≡ Some f → face g ≡ face f → Alike fs (slice_set fs n g)
-set_faces [] n f g e t = cc
-set_faces (x ∷ xs) zero f g e t = let same : x ≡ f = cc in λ i. (ap face same ∙ sym t) i ∷ map face xs
-set_faces (x ∷ xs) (suc n) f g e t = ap (λ ys. face x ∷ ys) (set_faces xs n f g e t)
+all_faces : (fs gs : List Function) → length gs ≡ length fs → ((n : ℕ) (f g : Function) → slice_get fs n ≡ Some f → slice_get gs n ≡ Some g → face g ≡ face f) → Alike fs gs
+all_faces [] [] e h = refl
+all_faces [] (g ∷ gs) e h = absurd (omega (arith, e))
+all_faces (f ∷ fs) [] e h = absurd (omega (arith, e))
+all_faces (f ∷ fs) (g ∷ gs) e h =
+    let here : face g ≡ face f = h 0 f g refl refl in
+    let rest : Alike fs gs = all_faces fs gs (omega (arith, e)) (λ n x y a b. h (suc n) x y a b) in
+    λ i. sym here i ∷ rest i
 
 found_alike : (name : List ℕ) (fs gs : List Function) → Alike fs gs → heads_of (find (λ (f : Function). bytes_eq f.name name) gs) ≡ heads_of (find (λ (f : Function). bytes_eq f.name name) fs)
 found_alike name [] [] e = refl
@@ -129,23 +135,22 @@ main_alike number (f ∷ fs) (g ∷ gs) e =
 -- ---- the other functions
 
 module _ (known : Env) (names more : Names Function) (heads : SameHeads names more) (ts : Targets) (h : SameTargets ts known.targets) where
-  functions_alike : (number : ℕ) (fs : List Function) → d.functions known more number fs ≡ Ok tt → d.functions (record known { targets = ts }) names number fs ≡ Ok tt
-  unfolding d.functions
-  functions_alike number [] p = refl
-  functions_alike number (f ∷ fs) p =
-      let a = first_passed (d.one_function known more number f) _ tt p in
-      both_pass (d.one_function (record known { targets = ts }) names number f) _ tt tt (function_seen names more heads ts known h number f a.1) (functions_alike (number + 1) fs a.2)
+  -- where one passes, so does what stands in its place
+  abbrev pub PassesToo : Function → Function → Type 0
+  PassesToo f g = (number : ℕ) → d.one_function known more number f ≡ Ok tt → d.one_function (record known { targets = ts }) names number g ≡ Ok tt
 
-  pub functions_set : (number : ℕ) (fs : List Function) (n : ℕ) (f g : Function) → slice_get fs n ≡ Some f → d.functions known more number fs ≡ Ok tt → ((k : ℕ) → d.one_function (record known { targets = ts }) names k g ≡ Ok tt) →
-      d.functions (record known { targets = ts }) names number (slice_set fs n g) ≡ Ok tt
+  pub stays_passes : (f : Function) → PassesToo f f
+  stays_passes f number e = function_seen names more heads ts known h number f e
+
+  pub functions_pass : (number : ℕ) (fs gs : List Function) → length gs ≡ length fs → d.functions known more number fs ≡ Ok tt → ((n : ℕ) (f g : Function) → slice_get fs n ≡ Some f → slice_get gs n ≡ Some g → PassesToo f g) →
+      d.functions (record known { targets = ts }) names number gs ≡ Ok tt
   unfolding d.functions
-  functions_set number [] n f g own p new = cc
-  functions_set number (x ∷ xs) zero f g own p new =
-      let a = first_passed (d.one_function known more number x) _ tt p in
-      both_pass (d.one_function (record known { targets = ts }) names number g) _ tt tt (new number) (functions_alike (number + 1) xs a.2)
-  functions_set number (x ∷ xs) (suc n) f g own p new =
-      let a = first_passed (d.one_function known more number x) _ tt p in
-      both_pass (d.one_function (record known { targets = ts }) names number x) _ tt tt (function_seen names more heads ts known h number x a.1) (functions_set (number + 1) xs n f g own a.2 new)
+  functions_pass number [] [] e p new = refl
+  functions_pass number [] (g ∷ gs) e p new = absurd (omega (arith, e))
+  functions_pass number (f ∷ fs) [] e p new = refl
+  functions_pass number (f ∷ fs) (g ∷ gs) e p new =
+      let a = first_passed (d.one_function known more number f) _ tt p in
+      both_pass (d.one_function (record known { targets = ts }) names number g) _ tt tt (new 0 f g refl refl number a.1) (functions_pass (number + 1) fs gs (omega (arith, e)) a.2 (λ n x y k l. new (suc n) x y k l))
 
 -- ---- the folded function
 
@@ -258,29 +263,38 @@ module _ (q : Sealed) (n : ℕ) (f : Function) (facts : Facts) (most : ℕ) (ts 
 
 -- ---- the whole program
 
-accepted_by : (q : Sealed) (n : ℕ) (f : Function) (facts : Facts) (most : ℕ) (ts : List ℤ) (xs : List (Lifted (List AbsVal))) (g : Function) → FoldsBy q n f facts most ts xs g → first_fault (replaced q n g).program ≡ None
+to_face : (p : Sealed) (n : ℕ) (f g : Function) (o : Option Facts) → FoldsTo p n f g o → face g ≡ face f
+to_face p n f g None same = ap face same
+to_face p n f g (Some facts) folds = ap face (folds_by p n f facts folds.0 g folds.1).folded.is
+
+to_passes : (q : Sealed) (names : Names Function) (heads : SameHeads names (functions_by_name q.program.functions)) (us : Targets) (alike : SameTargets us (targets_of q.program)) (n : ℕ) (f g : Function) (o : Option Facts) → FoldsTo q n f g o →
+    PassesToo (known_env q.program.structs (targets_of q.program) (globals_by_name q.program.globals)) names (functions_by_name q.program.functions) heads us alike f g
+to_passes q names heads us alike n f g None same =
+    let known : Env = known_env q.program.structs (targets_of q.program) (globals_by_name q.program.globals) in
+    subst (PassesToo known names (functions_by_name q.program.functions) heads us alike f) (sym same) (stays_passes known names (functions_by_name q.program.functions) heads us alike f)
+to_passes q names heads us alike n f g (Some facts) folds =
+    let t : Found = folds.0 in
+    let by : FoldsBy q n f facts t.limits.size t.limits.ends folds.1.values.begins g = folds_by q n f facts t g folds.1 in
+    λ number e.
+    subst (λ (z : Function). d.one_function (known_env q.program.structs us (globals_by_name q.program.globals)) names number z ≡ Ok tt) (sym by.folded.is)
+    (one_passes q n f facts t.limits.size t.limits.ends (values_at (body_of q n f facts t.limits.size t.limits.ends) f.blocks folds.1.values.begins) names heads us alike by.folded.keep (λ k. (by.folded.kept k).1) (λ k. (by.folded.kept k).0) number number e)
+
+pub folds_are_accepted : FoldsAreAccepted
 unfolding first_fault checked
-accepted_by q n f facts most ts xs g folds =
+folds_are_accepted q facts gs folds =
     let p : Program = q.program in
-    let a : Parts p = parts p folds.values.accepted in
+    let a : Parts p = parts p folds.accepted in
     let known : Env = known_env p.structs (targets_of p) (globals_by_name p.globals) in
-    let gs : List Function = slice_set p.functions n g in
-    let us : Targets = targets_of (replaced q n g).program in
-    let alike : Alike p.functions gs = set_faces p.functions n f g folds.own (ap face folds.folded.is) in
+    let us : Targets = targets_of (with_functions q gs).program in
+    let alike : Alike p.functions gs = all_faces p.functions gs folds.count (λ n f g own made. to_face q n f g (facts n) (folds.each n f g own made)) in
     let heads : SameHeads (functions_by_name gs) (functions_by_name p.functions) = tables_alike p.functions gs alike in
     let same : SameTargets us (targets_of p) = same_targets (p.profile == 2) (functions_by_name gs) (functions_by_name p.functions) heads in
     let table = heads_alike (globals_by_name p.globals) 0 [] [] (functions_by_name p.functions) p.functions gs alike (λ name. refl) a.heads in
     let table_is : table.0 ≡ functions_by_name gs = heads_are (globals_by_name p.globals) 0 [] table.0 gs table.1 in
-    let one = function_at known (functions_by_name p.functions) 0 p.functions n f a.functions folds.own in
-    let folded : (k : ℕ) → d.one_function (known_env p.structs us (globals_by_name p.globals)) (functions_by_name gs) k g ≡ Ok tt = λ k.
-    subst (λ (z : Function). d.one_function (known_env p.structs us (globals_by_name p.globals)) (functions_by_name gs) k z ≡ Ok tt) (sym folds.folded.is)
-    (one_passes q n f facts most ts (values_at (body_of q n f facts most ts) f.blocks xs) (functions_by_name gs) heads us same folds.folded.keep (λ k. (folds.folded.kept k).1) (λ k. (folds.folded.kept k).0) one.0 k one.1) in
-    no_fault_of (checked (replaced q n g).program)
+    no_fault_of (checked (with_functions q gs).program)
     (both_pass (d.structs p.structs 0 [] p.structs) _ tt tt a.structs
     (both_pass (d.globals p.structs us (globals_by_name p.globals) 0 [] p.globals) _ (globals_by_name p.globals) tt (globals_same p.structs us (targets_of p) same (globals_by_name p.globals) 0 [] p.globals ∙ a.globals)
     (both_pass (d.heads (globals_by_name p.globals) 0 [] gs) _ (functions_by_name gs) tt (table.1 ∙ ap Ok table_is)
     (both_pass (d.main 0 gs) _ tt tt (main_alike 0 p.functions gs alike ∙ a.main)
-    (functions_set known (functions_by_name gs) (functions_by_name p.functions) heads us same 0 p.functions n f g folds.own a.functions folded)))))
-
-pub fold_is_accepted : FoldIsAccepted
-fold_is_accepted p n f facts t g folds = accepted_by p n f facts t.limits.size t.limits.ends folds.values.begins g (folds_by p n f facts t g folds)
+    (functions_pass known (functions_by_name gs) (functions_by_name p.functions) heads us same 0 p.functions gs folds.count a.functions
+    (λ n f g own made. to_passes q (functions_by_name gs) heads us same n f g (facts n) (folds.each n f g own made)))))))

@@ -13,7 +13,7 @@ use Rattle.gimple_claims.specs.Kept.{new_body, new_blocks}
 use Rattle.fix_engine.specs.declared.lifted.Lifted.{Lifted}
 use Rattle.value_domain.specs.declared.abs_val.AbsVal.{AbsVal}
 use Rattle.body_values.specs.Found.{Found, found_row}
-use Rattle.body_values.specs.Flow.{body_at}
+use Rattle.block_flow.specs.System.{body_at}
 use Rattle.body_fold.specs.declared.folder.Folder.{Folder}
 use Rattle.body_fold.specs.Fold.{stmt_at, end_at}
 use Rattle.body_fold.specs.Folders.{folding_in}

@@ -1,8 +1,8 @@
--- A program with one function folded has no more parts than it had.
-use Rattle.std.proofs.Common.{◌≡◌, ℕ, zero, suc, ◌+◌, ◌<◌, ◌≤◌, ℤ, Bool, true, false, if◌then◌else◌, List, [], ◌∷◌, length, refl, sym, ap, subst, arith, Option, Some, None, slice_get, slice_set}
+-- A program with its functions folded has no more parts than it had.
+use Rattle.std.proofs.Common.{◌≡◌, ℕ, suc, ◌+◌, ◌<◌, ◌≤◌, Bool, true, false, if◌then◌else◌, List, [], ◌∷◌, length, refl, sym, ◌∙◌, ap, subst, arith, Option, Some, None, slice_get}
 use Rattle.std.specs.Prelude.{sum_by}
 use Rattle.std.specs.List.{All}
-use Rattle.std.proofs.lemmas.List.Elements.{All-head, All-tail, All-cons}
+use Rattle.std.proofs.lemmas.List.Elements.{All-nil, All-head, All-tail, All-cons}
 use Rattle.std.proofs.lemmas.List.Sums.{sum_by-cons}
 use Rattle.gimple_ir.specs.declared.operand.Operand.{Operand}
 use Rattle.gimple_ir.specs.declared.value.Constant.{Constant}
@@ -14,38 +14,33 @@ use Rattle.gimple_ir.specs.declared.block.End.TheVariants.{Goto, If, Switch, Ret
 use Rattle.gimple_ir.specs.declared.program.Function.{Function}
 use Rattle.gimple_ir.specs.Size.{size_of_block, size_of_function, size_of_program, branches_of_end, branches_of_function}
 use Rattle.gimple_ir.specs.Counts.{CountsWithin}
-use Rattle.gimple_core.specs.Sealed.{Sealed}
+use Rattle.gimple_core.specs.Sealed.{Sealed, with_functions}
 use Rattle.gimple_claims.specs.Kept.{new_body, new_blocks}
 use Rattle.fix_engine.specs.declared.lifted.Lifted.{Lifted}
 use Rattle.fix_engine.specs.declared.lifted.Lifted.TheVariants.{NotReached, Reached}
 use Rattle.value_domain.specs.declared.abs_val.AbsVal.{AbsVal}
 use Rattle.body_values.specs.declared.facts.Facts.{Facts}
-use Rattle.body_values.specs.Flow.{body_of, values_at}
-use Rattle.body_fold.specs.Fold.{Folding, known_operand, known_comparison, folded_left, folded_right, goto_or, case_or, folded_end, end_at, new_stmt, new_end}
-use Rattle.body_fold.specs.Claims.{replaced}
-use Rattle.body_fold.proofs.FoldsBy.{folding_of, FoldsBy}
+use Rattle.body_values.specs.Found.{Found, found_row}
+use Rattle.body_fold.specs.Fold.{Folding, known_operand, known_comparison, folded_left, folded_right, goto_or, case_or, folded_end, end_at, new_stmt, new_end, IsFolded}
+use Rattle.body_fold.specs.Claims.{IsNoLarger, FoldIsNoLarger, FoldsTo, FoldsAll}
+use Rattle.body_fold.specs.Folders.{folding_by, IsFoldOf}
 
--- ---- one item of a list replaced
+-- ---- two lists of as many items
 
-all_at : {X : Type 0} (P : X → Type 0) (xs : List X) (k : ℕ) (x : X) → All P xs → slice_get xs k ≡ Some x → P x
-all_at P [] k x h e = cc
-all_at P (y ∷ ys) zero x h e = let same : y ≡ x = cc in subst P same (All-head P y ys h)
-all_at P (y ∷ ys) (suc k) x h e = all_at P ys k x (All-tail P y ys h) e
+all_through : {X : Type 0} (P : X → Type 0) (xs ys : List X) → length ys ≡ length xs → All P xs → ((n : ℕ) (x y : X) → slice_get xs n ≡ Some x → slice_get ys n ≡ Some y → P x → P y) → All P ys
+all_through P [] [] e h g = All-nil P
+all_through P [] (y ∷ ys) e h g = absurd (omega (arith, e))
+all_through P (x ∷ xs) [] e h g = All-nil P
+all_through P (x ∷ xs) (y ∷ ys) e h g = All-cons P y ys (g 0 x y refl refl (All-head P x xs h)) (all_through P xs ys (omega (arith, e)) (All-tail P x xs h) (λ n a b k l. g (suc n) a b k l))
 
-all_set : {X : Type 0} (P : X → Type 0) (xs : List X) (k : ℕ) (x : X) → All P xs → P x → All P (slice_set xs k x)
-all_set P [] k x h g = h
-all_set P (y ∷ ys) zero x h g = All-cons P x ys g (All-tail P y ys h)
-all_set P (y ∷ ys) (suc k) x h g = All-cons P y (slice_set ys k x) (All-head P y ys h) (all_set P ys k x (All-tail P y ys h) g)
-
-as_many : {X : Type 0} (xs : List X) (k : ℕ) (x : X) → length (slice_set xs k x) ≡ length xs
-as_many [] k x = refl
-as_many (y ∷ ys) zero x = refl
-as_many (y ∷ ys) (suc k) x = ap suc (as_many ys k x)
-
-sum_set : {X : Type 0} (size : X → ℕ) (xs : List X) (k : ℕ) (x y : X) → slice_get xs k ≡ Some x → size y ≤ size x → sum_by size (slice_set xs k y) ≤ sum_by size xs
-sum_set size [] k x y e l = cc
-sum_set size (z ∷ zs) zero x y e l = let same : z ≡ x = cc in let here : size z ≡ size x = ap size same in omega (arith, here, l, sum_by-cons size z zs, sum_by-cons size y zs)
-sum_set size (z ∷ zs) (suc k) x y e l = let rest = sum_set size zs k x y e l in omega (arith, rest, sum_by-cons size z zs, sum_by-cons size z (slice_set zs k y))
+sum_through : {X : Type 0} (size : X → ℕ) (xs ys : List X) → length ys ≡ length xs → ((n : ℕ) (x y : X) → slice_get xs n ≡ Some x → slice_get ys n ≡ Some y → size y ≤ size x) → sum_by size ys ≤ sum_by size xs
+sum_through size [] [] e g = omega arith
+sum_through size [] (y ∷ ys) e g = absurd (omega (arith, e))
+sum_through size (x ∷ xs) [] e g = absurd (omega (arith, e))
+sum_through size (x ∷ xs) (y ∷ ys) e g =
+    let here : size y ≤ size x = g 0 x y refl refl in
+    let rest = sum_through size xs ys (omega (arith, e)) (λ n a b k l. g (suc n) a b k l) in
+    omega (arith, here, rest, sum_by-cons size x xs, sum_by-cons size y ys)
 
 -- ---- blocks
 
@@ -70,6 +65,14 @@ module _ (put : ℕ → ℕ → Stmt → Stmt) (end : ℕ → End → End) (keep
       by : (t : Bool) → sum_by size rest ≤ sum_by size bs → sum_by size (if t then made k b ∷ rest else rest) ≤ sum_by size (b ∷ bs)
       by true h = let here = less k b in omega (arith, h, here, sum_by-cons size (made k b) rest, sum_by-cons size b bs)
       by false h = omega (arith, h, sum_by-cons size b bs)
+
+  count_new : (k : ℕ) (bs : List Block) → length (new_blocks put end keep k bs) ≤ length bs
+  count_new k [] = omega arith
+  count_new k (b ∷ bs) = by (keep k) (count_new (k + 1) bs)
+    where
+      by : (t : Bool) → length (new_blocks put end keep (k + 1) bs) ≤ length bs → length (if t then made k b ∷ new_blocks put end keep (k + 1) bs else new_blocks put end keep (k + 1) bs) ≤ suc (length bs)
+      by true h = omega (arith, h)
+      by false h = omega (arith, h)
 
   pub size_new : (k : ℕ) (bs : List Block) → sum_by size_of_block (new_blocks put end keep k bs) ≤ sum_by size_of_block bs
   size_new k bs = sum_new size_of_block (λ j b. let same = body_length j 0 b.body in omega (arith, same)) k bs
@@ -100,32 +103,59 @@ module _ (S : Folding) where
   end_at_branches e NotReached = omega arith
   end_at_branches e (Reached row) = end_branches row e
 
+-- ---- a function
+
+no_larger : (S : Folding) (values : ℕ → ℕ → Lifted (List AbsVal)) (f g : Function) → IsFolded S values f g → IsNoLarger f g
+no_larger S values f g h =
+    let put : ℕ → ℕ → Stmt → Stmt = new_stmt S values in
+    let end : ℕ → End → End = new_end S f.blocks values in
+    let blocks : g.blocks ≡ new_blocks put end h.keep 0 f.blocks = ap (λ (z : Function). z.blocks) h.is in
+    record {
+      size = subst (λ bs. sum_by size_of_block bs ≤ size_of_function f) (sym blocks) (size_new put end h.keep 0 f.blocks);
+      blocks = subst (λ (bs : List Block). length bs ≤ length f.blocks) (sym blocks) (count_new put end h.keep 0 f.blocks);
+      branches = subst (λ bs. sum_by branches bs ≤ branches_of_function f) (sym blocks) (branches_new put end h.keep (λ k e. end_at_branches S e _) 0 f.blocks);
+      head = h.is ∙ (λ i. record f { blocks = sym blocks i });
+    }
+
+same_function : {f g : Function} → Some f ≡ Some g → f ≡ g
+same_function e = cc
+
+-- what a function is folded to
+pub fold_no_larger : (p : Sealed) (n : ℕ) (t : Found) (g : Function) → IsFoldOf p n t g → FoldIsNoLarger p n g
+fold_no_larger p n t g h f own =
+    let same : h.function ≡ f = same_function (sym h.own ∙ own) in
+    subst (λ (z : Function). IsNoLarger z g) same (no_larger (folding_by p h.function t.limits) (λ k i. found_row t.rows k i) h.function g h.folded)
+
+stays_no_larger : (f : Function) → IsNoLarger f f
+stays_no_larger f = record { size = omega arith; blocks = omega arith; branches = omega arith; head = refl }
+
+to_no_larger : (p : Sealed) (n : ℕ) (f g : Function) → slice_get p.program.functions n ≡ Some f → (o : Option Facts) → FoldsTo p n f g o → IsNoLarger f g
+to_no_larger p n f g own None same = subst (IsNoLarger f) (sym same) (stays_no_larger f)
+to_no_larger p n f g own (Some facts) folds = fold_no_larger p n folds.0 g folds.1.folded f own
+
 -- ---- the program
 
-pub fold_counts : (p : Sealed) (n : ℕ) (f : Function) (facts : Facts) (most : ℕ) (ts : List ℤ) (xs : List (Lifted (List AbsVal))) (g : Function) → FoldsBy p n f facts most ts xs g → (m : ℕ) → CountsWithin m p.program → CountsWithin m (replaced p n g).program
-fold_counts p n f facts most ts xs g folds m h =
+-- all functions together are no larger
+pub fold_size : (p : Sealed) (facts : ℕ → Option Facts) (gs : List Function) → FoldsAll p facts gs → size_of_program (with_functions p gs).program ≤ size_of_program p.program
+fold_size p facts gs folds =
+    sum_through size_of_function p.program.functions gs folds.count (λ n f g own made. (to_no_larger p n f g own (facts n) (folds.each n f g own made)).size)
+
+pub fold_counts : (p : Sealed) (facts : ℕ → Option Facts) (gs : List Function) → FoldsAll p facts gs → (m : ℕ) → CountsWithin m p.program → CountsWithin m (with_functions p gs).program
+fold_counts p facts gs folds m h =
     let fs : List Function = p.program.functions in
-    let values : ℕ → ℕ → Lifted (List AbsVal) = values_at (body_of p n f facts most ts) f.blocks xs in
-    let put : ℕ → ℕ → Stmt → Stmt = new_stmt (folding_of p n f facts most ts) values in
-    let end : ℕ → End → End = new_end (folding_of p n f facts most ts) f.blocks values in
-    let smaller : size_of_function g ≤ size_of_function f =
-    subst (λ (z : Function). size_of_function z ≤ size_of_function f) (sym folds.folded.is) (size_new put end folds.folded.keep 0 f.blocks) in
-    let fewer : branches_of_function g ≤ branches_of_function f =
-    subst (λ (z : Function). branches_of_function z ≤ branches_of_function f) (sym folds.folded.is) (branches_new put end folds.folded.keep (λ k e. end_at_branches (folding_of p n f facts most ts) e _) 0 f.blocks) in
-    let whole = sum_set size_of_function fs n f g folds.own smaller in
+    let each : (n : ℕ) (f g : Function) → slice_get fs n ≡ Some f → slice_get gs n ≡ Some g → IsNoLarger f g = λ n f g own made. to_no_larger p n f g own (facts n) (folds.each n f g own made) in
+    let whole = fold_size p facts gs folds in
     let size : size_of_program p.program < m = h.size in
-    let many = as_many fs n g in
     let functions = h.functions in
-    let few = all_at (λ (z : Function). branches_of_function z < m) fs n f h.branches folds.own in
+    let many : length gs ≡ length fs = folds.count in
     record {
       structs = h.structs;
       fields = h.fields;
       globals = h.globals;
       functions = omega (arith, many, functions);
       size = omega (arith, whole, size);
-      formals = all_set (λ (z : Function). length z.params < m) fs n g h.formals
-          (subst (λ (z : Function). length z.params < m) (sym folds.folded.is) (all_at (λ (z : Function). length z.params < m) fs n f h.formals folds.own));
-      locals = all_set (λ (z : Function). length z.locals < m) fs n g h.locals
-          (subst (λ (z : Function). length z.locals < m) (sym folds.folded.is) (all_at (λ (z : Function). length z.locals < m) fs n f h.locals folds.own));
-      branches = all_set (λ (z : Function). branches_of_function z < m) fs n g h.branches (omega (arith, fewer, few));
+      formals = all_through (λ (z : Function). length z.params < m) fs gs folds.count h.formals (λ n f g own made few. subst (λ (z : Function). length z.params < m) (sym (each n f g own made).head) few);
+      locals = all_through (λ (z : Function). length z.locals < m) fs gs folds.count h.locals (λ n f g own made few. subst (λ (z : Function). length z.locals < m) (sym (each n f g own made).head) few);
+      branches = all_through (λ (z : Function). branches_of_function z < m) fs gs folds.count h.branches
+          (λ n f g own made few. let less : branches_of_function g ≤ branches_of_function f = (each n f g own made).branches in let most : branches_of_function f < m = few in omega (arith, less, most));
     }

@@ -29,7 +29,7 @@ use Rattle.value_domain.specs.Thresholds.{Limits, IsLawful}
 use Rattle.value_domain.proofs.LawfulLemmas.{list_lawful}
 use Rattle.body_values.specs.Flow.{given_load}
 use Rattle.body_values.specs.Found.{Found, AreFound, found_row}
-use Rattle.body_values.specs.Ready.{AreFew}
+use Rattle.block_flow.specs.System.{AreFew}
 use Rattle.body_values.specs.Rows.{LiftedFits}
 use Rattle.body_values.specs.Scenes.{IsReady}
 use Rattle.body_values.specs.Setting.{WereFound}

@@ -17,7 +17,9 @@ use Rattle.value_domain.specs.declared.abs_val.AbsVal.{AbsVal}
 use Rattle.body_values.specs.declared.facts.Facts.{Facts}
 use Rattle.body_values.specs.Bodies.{operand_value, arith_value, compare_value, convert_value, result_value}
 use Rattle.body_values.specs.Claims.{Analysed}
-use Rattle.body_values.specs.Flow.{given_load, body_of, labels_of, body_at, values_at}
+use Rattle.block_flow.specs.Branches.{labels_of}
+use Rattle.block_flow.specs.System.{body_at}
+use Rattle.body_values.specs.Flow.{given_load, body_of, values_at}
 use Rattle.body_values.specs.Found.{Found, AreFound, found_row, is_index}
 use Rattle.body_fold.specs.Claims.{Folds}
 use Rattle.body_fold.specs.Fold.{Folding, known_register, known_operand, compared_constant, evaluated, never_traps, known_result, constant_for, folded_right, folded_left, folded_place, with_operands, folded_stmt, known_comparison, folded_end, stmt_at, end_at, new_stmt, new_end, IsLinked, first, linked, IsFolded}

@@ -13,7 +13,7 @@ use Rattle.gimple_core.proofs.Passed.{first_passed, both_pass, demanded, demand_
 use Rattle.gimple_claims.specs.Kept.{new_body, new_blocks}
 use Rattle.gimple_claims.proofs.Blocks.{number_in, label_at}
 use Rattle.gimple_claims.proofs.Checked.{ok_same}
-use Rattle.body_values.specs.Flow.{block_place, place_or}
+use Rattle.block_flow.specs.Branches.{block_place, place_or}
 
 abbrev Lists : List ℕ → ℕ → Bool
 Lists ls l = list_any (λ m. l == m) ls

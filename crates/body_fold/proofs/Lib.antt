@@ -4,6 +4,7 @@ pub mod Known
 pub mod Acting
 pub mod Points
 pub mod Names
+pub mod Pieces
 pub mod Running
 pub mod Relabelled
 pub mod Passing

@@ -10,8 +10,8 @@ use Rattle.gimple_claims.specs.Kept.{new_body, new_blocks}
 use Rattle.graph_walk.specs.Graph.{Leads, start, along, AreMarks}
 use Rattle.graph_walk.specs.Walk.{listed, row_at}
 use Rattle.graph_walk.proofs.Walking.{marked_inside}
-use Rattle.body_values.specs.Flow.{block_place, place_or, labels_of}
-use Rattle.body_values.specs.System.{place_within}
+use Rattle.block_flow.specs.Branches.{block_place, place_or, labels_of}
+use Rattle.block_flow.specs.Laws.{place_within}
 use Rattle.body_fold.specs.Fold.{IsLinked, first, linked}
 use Rattle.body_fold.specs.Links.{places_of, targets_of, all_targets, out_of, unless_dropped, marked_blocks}
 

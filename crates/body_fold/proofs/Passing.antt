@@ -33,7 +33,7 @@ use Rattle.gimple_claims.specs.Checks.{env_of}
 use Rattle.gimple_claims.proofs.Checked.{ok_same}
 use Rattle.value_domain.specs.declared.abs_val.AbsVal.{AbsVal}
 use Rattle.body_values.specs.Bodies.{register_scalar, scalar_or, target_of}
-use Rattle.body_values.specs.Flow.{labels_of}
+use Rattle.block_flow.specs.Branches.{labels_of}
 use Rattle.body_fold.specs.Fold.{Folding, value_of_constant, known_comparison, known_operand, constant_for, passes, is_put, put_or, folded_operand, folded_left, folded_right, right_check, formals_of, folded_arguments, place_on, folded_place, stored_place, with_operands, copy_or, with_result, folded_stmt, is_zero, goto_or, case_or, folded_end}
 use Rattle.body_fold.proofs.ConstantValues.{put_has}
 use Rattle.body_fold.proofs.Relabelled.{SameTargets, compared_seen, integer_seen, returned_seen}

@@ -1,5 +1,5 @@
 -- A function that is folded, at each point of a run.
-use Rattle.std.proofs.Common.{◌≡◌, ℕ, suc, ◌==◌, ℤ, Bool, true, false, if◌then◌else◌, List, [], ◌∷◌, ◌++◌, map, length, take, append-nil, refl, sym, ◌∙◌, ap, subst, Option, Some, None, Ok, slice_get}
+use Rattle.std.proofs.Common.{◌≡◌, ℕ, suc, ◌==◌, ℤ, Bool, true, false, if◌then◌else◌, List, [], ◌∷◌, ◌++◌, map, length, append-nil, refl, sym, ◌∙◌, ap, subst, Option, Some, None, Ok, slice_get}
 use Rattle.std.specs.List.{list_all, find}
 use Rattle.gimple_ir.specs.declared.scalar.Scalar.TheVariants.{I64}
 use Rattle.gimple_ir.specs.declared.operand.Operand.{Operand}
@@ -24,12 +24,11 @@ use Rattle.gimple_core.specs.Statements as s
 use Rattle.gimple_core.specs.Verdict.{found, demand}
 use Rattle.gimple_core.proofs.Passed.{first_passed, found_so}
 use Rattle.gimple_core.proofs.StepLemmas.{calling_stmt, call_is}
-use Rattle.gimple_claims.specs.Bodies.{FactsClaim, IsAt, file_at, body_of as statements_of}
+use Rattle.gimple_claims.specs.Bodies.{FactsClaim}
 use Rattle.gimple_claims.specs.Checks.{env_of, StmtsPass}
 use Rattle.gimple_claims.specs.Typed.{registers_typed}
 use Rattle.gimple_claims.specs.Runs.{Comes}
 use Rattle.gimple_claims.proofs.Callees.{call_check, called_of}
-use Rattle.gimple_claims.proofs.Files.{Placed, placed, file_is}
 use Rattle.gimple_claims.proofs.Lost.{stands}
 use Rattle.gimple_claims.proofs.Points.{meets_of, in_did_always}
 use Rattle.gimple_claims.proofs.Typed.{values_are_typed}
@@ -38,16 +37,16 @@ use Rattle.fix_engine.specs.declared.lifted.Lifted.{Lifted}
 use Rattle.fix_engine.specs.declared.lifted.Lifted.TheVariants.{Reached}
 use Rattle.value_domain.specs.declared.abs_val.AbsVal.{AbsVal}
 use Rattle.body_values.specs.declared.facts.Facts.{Facts}
-use Rattle.body_values.specs.Bodies.{after_body}
-use Rattle.body_values.specs.Flow.{block_place, place_or, body_of, labels_of, body_at, value_or, values_at}
+use Rattle.block_flow.specs.Branches.{block_place, place_or, labels_of}
+use Rattle.block_flow.specs.System.{body_at}
+use Rattle.body_values.specs.Flow.{body_of, values_at}
 use Rattle.body_values.specs.Rows.{RowFits}
 use Rattle.body_values.specs.Rising.{LoadsFit}
 use Rattle.body_values.specs.System.{loads_fit}
 use Rattle.body_values.specs.Claims.{given_of}
 use Rattle.body_values.proofs.Held.{RowHolds}
 use Rattle.gimple_claims.proofs.OneRun.{each_before}
-use Rattle.body_values.proofs.Points.{F, sol, is_at}
-use Rattle.body_values.proofs.Solved.{to_option, reached_is, carried_is}
+use Rattle.body_values.proofs.Points.{is_at}
 use Rattle.body_fold.specs.Fold.{Folding, known_result, evaluated, never_traps, constant_operand, folded_arguments, formals_of, with_operands, folded_stmt, folded_end, new_stmt, new_end, stmt_at, end_at, IsLinked, first, linked}
 use Rattle.body_fold.proofs.FoldsBy.{folding_of, FoldsBy}
 use Rattle.body_fold.specs.Folders.{NamesMean}
@@ -128,33 +127,18 @@ module _ (p : Sealed) (n : ℕ) (f : Function) (facts : Facts) (most : ℕ) (ts 
     pub end : st.top.end ≡ block.end
     pub last : st.top.rest ≡ [] → length block.body ≡ st.top.index
 
-  same_body : (o : Option Block) → body_at o ≡ statements_of o
-  same_body None = refl
-  same_body (Some b) = refl
-
-  file_reached : (st : State) (a : IsAt f (F p n f facts most ts xs folds.values input numbers) (sol p n f facts most ts xs folds.values input numbers) st.top st.world.registers) → values st.top.block st.top.index ≡ Reached a.file
-  unfolding file_at values_at
-  file_reached st a =
-      let there : file_at (F p n f facts most ts xs folds.values input numbers) (sol p n f facts most ts xs folds.values input numbers) f.blocks st.top.block st.top.index ≡ Some a.file =
-      file_is f (F p n f facts most ts xs folds.values input numbers) (sol p n f facts most ts xs folds.values input numbers) st.top.block st.top.index st.top.rest st.top.end a.file a.state in
-      reached_is _ a.file
-      (ap (λ ys. to_option (after_body (body_of p n f facts most ts) st.top.block 0 (take st.top.index ys) (value_or (slice_get xs st.top.block)))) (same_body (slice_get f.blocks st.top.block))
-      ∙ (carried_is (body_of p n f facts most ts) st.top.block 0 (take st.top.index (statements_of (slice_get f.blocks st.top.block))) (value_or (slice_get xs st.top.block)) ∙ there))
-
   pub is_here : (past : List Event) (st : State) → Comes p input past st → st.top.function ≡ f → IsHere st
   is_here past st c same =
       let a = is_at p n f facts most ts xs folds.values input numbers past st c same (meets_of f (given_of n f facts) st.top.serial past (each_before p (FactsClaim f (given_of n f facts)) input (all input numbers) past st c)) in
-      let q : Placed f (F p n f facts most ts xs folds.values input numbers) (sol p n f facts most ts xs folds.values input numbers) st.top.block st.top.index st.top.rest st.top.end a.file =
-      placed f (F p n f facts most ts xs folds.values input numbers) (sol p n f facts most ts xs folds.values input numbers) st.top.block st.top.index st.top.rest st.top.end a.file a.state in
       record {
-        row = a.file;
-        reached = file_reached st a;
-        fits = a.within.0;
-        holds = a.within.1;
-        block = q.block;
-        found = q.found;
-        end = q.end;
-        last = λ e. let whole : length q.block.body ≡ length q.done = ap length (q.body ∙ ap (λ ys. q.done ++ ys) e ∙ append-nil q.done) in whole ∙ q.index;
+        row = a.row;
+        reached = a.reached;
+        fits = a.fits;
+        holds = a.holds;
+        block = a.block;
+        found = a.found;
+        end = a.end;
+        last = λ e. let whole : length a.block.body ≡ length a.done = ap length (a.body ∙ ap (λ ys. a.done ++ ys) e ∙ append-nil a.done) in whole ∙ a.index;
       }
 
   passes : (past : List Event) (st : State) → Comes p input past st → (x : Stmt) (rest : List Stmt) → st.top.rest ≡ x ∷ rest → s.statement (env_of p.program st.top.function) (functions_by_name p.program.functions) x ≡ Ok tt

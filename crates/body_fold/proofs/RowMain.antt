@@ -25,7 +25,9 @@ use Rattle.value_domain.specs.declared.abs_val.AbsVal.{AbsVal}
 use Rattle.value_domain.specs.AbsOperators.{known_of, may_trap_of, brought_into, exactly_of, abs_op_of}
 use Rattle.body_values.specs.declared.facts.Facts.{Facts}
 use Rattle.body_values.specs.Bodies.{operand_value, arith_value, result_value, after_stmt}
-use Rattle.body_values.specs.Flow.{body_of, entry_row, labels_of, values_at}
+use Rattle.block_flow.specs.Branches.{labels_of}
+use Rattle.block_flow.specs.System.{point_value}
+use Rattle.body_values.specs.Flow.{body_of, entry_row, values_at}
 use Rattle.body_fold.specs.Fold.{Folding, known_register, known_operand, constant_operand, constant_for, evaluated, never_traps, known_result, with_operands, folded_stmt, folded_end, end_at, new_end, IsLinked, first, linked, IsFolded}
 use Rattle.body_fold.proofs.FoldsBy.{folding_of}
 
@@ -98,7 +100,7 @@ only_first _ (linked zero y slot label h e l) = absurd (first_leads y slot label
 only_first _ (linked (suc k) y slot label h e l) = cc
 
 wraps_and_overflows : IsFolded S values source folded
-unfolding folded_stmt folded_end with_operands known_result evaluated never_traps known_operand known_register constant_operand constant_for operand_value arith_value result_value after_stmt values_at brought_into known_of may_trap_of abs_op_of exactly_of arith_of op_of number_in wrapped s.operand s.right_side s.printed s.returned
+unfolding folded_stmt folded_end with_operands known_result evaluated never_traps known_operand known_register constant_operand constant_for operand_value arith_value result_value after_stmt point_value brought_into known_of may_trap_of abs_op_of exactly_of arith_of op_of number_in wrapped s.operand s.right_side s.printed s.returned
 wraps_and_overflows = record {
   keep = λ k. k == 0;
   kept = λ k. (λ e. subst (IsLinked source.blocks (new_end S source.blocks values)) (sym (eqb-true k 0 e)) first, λ h. only_first k h);

@@ -1,5 +1,5 @@
--- A text can spell a program with one function folded where one can spell the program.
-use Rattle.std.proofs.Common.{◌≡◌, ℕ, zero, suc, ◌+◌, ◌^◌, ◌<◌, ◌≤◌, ℤ, pos, negsuc, ◌+ℤ◌, Bool, true, false, not, ◌||◌, if◌then◌else◌, List, [], ◌∷◌, refl, sym, subst, arith, Option, Some, None, Ok, Err, slice_get, slice_set}
+-- A text can spell a program with its functions folded where one can spell the program.
+use Rattle.std.proofs.Common.{◌≡◌, ℕ, zero, suc, ◌+◌, ◌^◌, ◌<◌, ◌≤◌, ℤ, pos, negsuc, ◌+ℤ◌, Bool, true, false, not, ◌||◌, if◌then◌else◌, List, [], ◌∷◌, length, refl, sym, subst, arith, Option, Some, None, Ok, Err, slice_get}
 use Rattle.std.specs.List.{find}
 use Rattle.gimple_ir.specs.declared.scalar.Scalar.{Scalar}
 use Rattle.gimple_ir.specs.declared.scalar.Scalar.TheVariants.{I8, I16, I32, I64, U8, U16, U32, U64, Ptr}
@@ -32,7 +32,7 @@ use Rattle.gimple_core.proofs.Passed.{first_passed, demanded}
 use Rattle.gimple_core.proofs.RangeLemmas.{limit_of, in_pos, in_neg, wrapped_in}
 use Rattle.gimple_claims.specs.Kept.{new_body, new_blocks}
 use Rattle.gimple_ir.specs.Names.{IsNameText}
-use Rattle.gimple_ir.specs.Spellable.{AllOf, IsSpellableNumber, IsSpellableOperand, IsSpellablePlace, IsSpellableStmt, IsSpellableCase, IsSpellableEnd, IsSpellableBlock, IsSpellableGlobal, IsSpellableFunction, IsSpellable}
+use Rattle.gimple_ir.specs.Spellable.{AllOf, IsSpellableNumber, IsSpellableOperand, IsSpellablePlace, IsSpellableStmt, IsSpellableCase, IsSpellableEnd, IsSpellableBlock, IsSpellableGlobal, IsSpellableFunction}
 use Rattle.fix_engine.specs.declared.lifted.Lifted.{Lifted}
 use Rattle.fix_engine.specs.declared.lifted.Lifted.TheVariants.{NotReached, Reached}
 use Rattle.value_domain.specs.declared.abs_val.AbsVal.{AbsVal}
@@ -40,7 +40,7 @@ use Rattle.body_values.specs.declared.facts.Facts.{Facts}
 use Rattle.body_values.specs.Bodies.{target_of}
 use Rattle.body_values.specs.Flow.{body_of, values_at}
 use Rattle.body_fold.specs.Fold.{Folding, value_of_constant, address_in, constant_operand, known_register, known_operand, known_comparison, constant_for, passes, is_put, folded_operand, folded_left, folded_right, right_check, formals_of, folded_arguments, place_in, place_from, place_on, folded_place, stored_place, with_operands, copy_or, with_result, folded_stmt, is_zero, goto_or, case_or, folded_end, stmt_at, end_at, new_stmt, new_end}
-use Rattle.body_fold.specs.Claims.{replaced, FoldIsSpellable}
+use Rattle.body_fold.specs.Claims.{FoldsTo, FoldsAreSpellable}
 use Rattle.body_fold.proofs.FoldsBy.{folding_of, FoldsBy, folds_by}
 use Rattle.body_fold.proofs.ConstantValues.{put_has}
 
@@ -137,10 +137,12 @@ all_at P [] k x h e = cc
 all_at P (y ∷ ys) zero x h e = let same : y ≡ x = cc in subst P same h.0
 all_at P (y ∷ ys) (suc k) x h e = all_at P ys k x h.1 e
 
-all_set : {X : Type 0} (P : X → Type 0) (xs : List X) (k : ℕ) (x : X) → AllOf P xs → P x → AllOf P (slice_set xs k x)
-all_set P [] k x h g = tt
-all_set P (y ∷ ys) zero x h g = (g, h.1)
-all_set P (y ∷ ys) (suc k) x h g = (h.0, all_set P ys k x h.1 g)
+-- what each item of the second list has where the one of the first list has it
+all_through : {X : Type 0} (P : X → Type 0) (xs ys : List X) → length ys ≡ length xs → AllOf P xs → ((n : ℕ) (x y : X) → slice_get xs n ≡ Some x → slice_get ys n ≡ Some y → P x → P y) → AllOf P ys
+all_through P [] [] e h g = tt
+all_through P [] (y ∷ ys) e h g = absurd (omega (arith, e))
+all_through P (x ∷ xs) [] e h g = tt
+all_through P (x ∷ xs) (y ∷ ys) e h g = (g 0 x y refl refl h.0, all_through P xs ys (omega (arith, e)) h.1 (λ n a b k l. g (suc n) a b k l))
 
 -- ---- what is put
 
@@ -314,18 +316,26 @@ module _ (S : Folding) (values : ℕ → ℕ → Lifted (List AbsVal)) (all : Li
 
 -- ---- the program
 
-folded_spelled : (p : Sealed) (n : ℕ) (f : Function) (facts : Facts) (most : ℕ) (ts : List ℤ) (xs : List (Lifted (List AbsVal))) (g : Function) → FoldsBy p n f facts most ts xs g → IsSpellable p.program → IsSpellable (replaced p n g).program
-folded_spelled p n f facts most ts xs g folds h =
+folded_spelled : (p : Sealed) (n : ℕ) (f : Function) (facts : Facts) (most : ℕ) (ts : List ℤ) (xs : List (Lifted (List AbsVal))) (g : Function) → FoldsBy p n f facts most ts xs g → AllOf IsSpellableGlobal p.program.globals →
+    IsSpellableFunction p.program.profile f → IsSpellableFunction p.program.profile g
+folded_spelled p n f facts most ts xs g folds globals old =
     let profile : ℕ = p.program.profile in
-    let old : IsSpellableFunction profile f = all_at (IsSpellableFunction profile) p.program.functions n f h.functions folds.own in
-    let new : IsSpellableFunction profile g = subst (IsSpellableFunction profile) (sym folds.folded.is) (record {
+    subst (IsSpellableFunction profile) (sym folds.folded.is) (record {
       name = old.name;
       params = old.params;
       locals = old.locals;
       registers = old.registers;
-      blocks = blocks_spelled (folding_of p n f facts most ts) (values_at (body_of p n f facts most ts) f.blocks xs) f.blocks folds.folded.keep h.globals profile 0 f.blocks old.blocks;
-    }) in
-    record { profile = h.profile; structs = h.structs; globals = h.globals; functions = all_set (IsSpellableFunction profile) p.program.functions n g h.functions new }
+      blocks = blocks_spelled (folding_of p n f facts most ts) (values_at (body_of p n f facts most ts) f.blocks xs) f.blocks folds.folded.keep globals profile 0 f.blocks old.blocks;
+    })
 
-pub fold_is_spellable : FoldIsSpellable
-fold_is_spellable p n f facts t g folds h = folded_spelled p n f facts t.limits.size t.limits.ends folds.values.begins g (folds_by p n f facts t g folds) h
+to_spelled : (p : Sealed) (n : ℕ) (f g : Function) (o : Option Facts) → FoldsTo p n f g o → AllOf IsSpellableGlobal p.program.globals → IsSpellableFunction p.program.profile f → IsSpellableFunction p.program.profile g
+to_spelled p n f g None same globals old = subst (IsSpellableFunction p.program.profile) (sym same) old
+to_spelled p n f g (Some facts) folds globals old = folded_spelled p n f facts folds.0.limits.size folds.0.limits.ends folds.1.values.begins g (folds_by p n f facts folds.0 g folds.1) globals old
+
+pub folds_are_spellable : FoldsAreSpellable
+folds_are_spellable p facts gs folds h = record {
+  profile = h.profile;
+  structs = h.structs;
+  globals = h.globals;
+  functions = all_through (IsSpellableFunction p.program.profile) p.program.functions gs folds.count h.functions (λ n f g own made old. to_spelled p n f g (facts n) (folds.each n f g own made) h.globals old);
+}

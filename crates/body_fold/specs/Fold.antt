@@ -36,7 +36,8 @@ use Rattle.value_domain.specs.declared.abs_val.AbsVal.{AbsVal}
 use Rattle.value_domain.specs.AbsOperators.{first_constant, known_of, may_trap_of}
 use Rattle.value_domain.specs.Holding.{constant_of}
 use Rattle.body_values.specs.Bodies.{Body, register_scalar, is_local, global_place, operand_value, right_scalar, sides_scalar, compare_value, target_of, result_value}
-use Rattle.body_values.specs.Flow.{block_place, place_or, labels_of, body_at}
+use Rattle.block_flow.specs.Branches.{block_place, place_or, labels_of}
+use Rattle.block_flow.specs.System.{body_at}
 
 -- What the constants in a body depend on: what the function sees, the other functions, and the setting of its values.
 pub record Folding : Type 0 where

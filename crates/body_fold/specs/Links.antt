@@ -2,7 +2,7 @@
 use Rattle.std.specs.Prelude.{ℕ, Bool, true, false, List, [], ◌∷◌, map, slice_index_or}
 use Rattle.gimple_ir.specs.declared.block.Block.{Block}
 use Rattle.gimple_ir.specs.declared.block.End.{End}
-use Rattle.body_values.specs.Flow.{block_place, place_or, labels_of}
+use Rattle.block_flow.specs.Branches.{block_place, place_or, labels_of}
 
 -- the numbers of the blocks of labels, where there is none the first one
 unfoldable pub places_of : List Block → List ℕ → List ℕ

@@ -5,7 +5,7 @@ ghost use Rattle.gimple_core.specs.Statements as check;
 ghost use Rattle.gimple_claims.specs.Checks.{StmtsPass, BlockPasses, BlocksPass};
 ghost use Rattle.gimple_claims.specs.Kept.{new_body};
 ghost use Rattle.body_values.specs.Found.{found_row};
-ghost use Rattle.body_values.specs.Ready.{AreFew};
+ghost use Rattle.block_flow.specs.System.{AreFew};
 ghost use Rattle.body_values.specs.Scenes.{FitsIn};
 ghost use Rattle.body_fold.specs.Blocks.{PointsFit, stmt_in, end_in, block_in, blocks_in};
 ghost use Rattle.body_fold.specs.Fold.{stmt_at, end_at};
@@ -32,7 +32,7 @@ impl<'a> Folder<'a> {
         ensures { IfOk result (λ x. x ≡ stmt_at (folding_in self.now) block index statement.now row.now) }
     {
         match row {
-            Lifted::Reached(row) => self.statement(block, index, row.as_slice(), statement),
+            Lifted::Reached(row) => self.statement(block, index, row, statement),
             Lifted::NotReached => statement.copy(),
         }
     }
@@ -45,7 +45,7 @@ impl<'a> Folder<'a> {
         ensures { IfOk result (λ e. e ≡ end_at (folding_in self.now) end.now row.now) }
     {
         match row {
-            Lifted::Reached(row) => self.end(row.as_slice(), end),
+            Lifted::Reached(row) => self.end(row, end),
             Lifted::NotReached => end.copy(),
         }
     }

@@ -11,16 +11,16 @@ ghost use Rattle.body_fold.specs.Folders.{folding_in, IsFolder};
 
 use crate::evaluation::{arithmetic, comparison, conversion};
 use crate::folder::Folder;
-use body_values::{offset_of, scalar_of};
+use body_values::{ValueRow, offset_of, scalar_of};
 use gimple_core::{Cmp, Constant, Op, Operand, OutOfMemory, Scalar, Stmt, Text};
-use value_domain::{AbsVal, known, may_trap};
+use value_domain::{known, may_trap};
 
 impl<'a> Folder<'a> {
     /// The constant that a register is known to hold.
     #[tactic(auto, unfolding(crate::specs::Fold::known_register))]
     pub(crate) fn known_register(
         &self,
-        row: &[AbsVal],
+        row: &ValueRow,
         name: &Text,
     ) -> Result<Option<Constant>, OutOfMemory>
         requires folder { IsFolder self.now }
@@ -51,7 +51,7 @@ impl<'a> Folder<'a> {
     #[tactic(auto, unfolding(crate::specs::Fold::known_operand))]
     pub(crate) fn known_operand(
         &self,
-        row: &[AbsVal],
+        row: &ValueRow,
         operand: &Operand,
     ) -> Result<Option<Constant>, OutOfMemory>
         requires folder { IsFolder self.now }
@@ -74,7 +74,7 @@ impl<'a> Folder<'a> {
     /// The result of an operator whose sides are both known; where it traps there is none.
     fn evaluated_arithmetic(
         &self,
-        row: &[AbsVal],
+        row: &ValueRow,
         scalar: Scalar,
         left: &Operand,
         op: Op,
@@ -96,7 +96,7 @@ impl<'a> Folder<'a> {
     /// The result of a conversion of a register that is known.
     fn evaluated_conversion(
         &self,
-        row: &[AbsVal],
+        row: &ValueRow,
         target: Scalar,
         from: &Operand,
     ) -> Result<Option<Constant>, OutOfMemory>
@@ -114,7 +114,7 @@ impl<'a> Folder<'a> {
     #[tactic(auto, unfolding(crate::specs::Fold::compared_constant))]
     fn compared(
         &self,
-        row: &[AbsVal],
+        row: &ValueRow,
         left: &Operand,
         cmp: Cmp,
         right: &Operand,
@@ -136,7 +136,7 @@ impl<'a> Folder<'a> {
     #[tactic(auto, unfolding(crate::specs::Fold::evaluated))]
     fn evaluated(
         &self,
-        row: &[AbsVal],
+        row: &ValueRow,
         scalar: Scalar,
         statement: &Stmt,
     ) -> Result<Option<Constant>, OutOfMemory>
@@ -170,7 +170,7 @@ impl<'a> Folder<'a> {
     /// Whether an operator may trap by the values of its sides.
     fn may_trap(
         &self,
-        row: &[AbsVal],
+        row: &ValueRow,
         scalar: Scalar,
         left: &Operand,
         op: Op,
@@ -193,7 +193,7 @@ impl<'a> Folder<'a> {
     #[tactic(auto, unfolding(crate::specs::Fold::never_traps))]
     fn never_traps(
         &self,
-        row: &[AbsVal],
+        row: &ValueRow,
         scalar: Scalar,
         statement: &Stmt,
     ) -> Result<bool, OutOfMemory>
@@ -235,7 +235,7 @@ impl<'a> Folder<'a> {
         &self,
         block: u32,
         index: u32,
-        row: &[AbsVal],
+        row: &ValueRow,
         scalar: Scalar,
         statement: &Stmt,
     ) -> Result<Option<Constant>, OutOfMemory>
@@ -261,7 +261,7 @@ impl<'a> Folder<'a> {
     #[tactic(auto, unfolding(crate::specs::Fold::known_comparison))]
     pub(crate) fn known_comparison(
         &self,
-        row: &[AbsVal],
+        row: &ValueRow,
         left: &Operand,
         cmp: Cmp,
         right: &Operand,

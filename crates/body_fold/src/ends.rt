@@ -11,8 +11,8 @@ ghost use Rattle.body_fold.specs.Folders.{folding_in, IsFolder};
 
 use crate::evaluation::any_of;
 use crate::folder::Folder;
+use body_values::ValueRow;
 use gimple_core::{Case, Cases, Cmp, Constant, End, Exact, Operand, OutOfMemory, eval_cmp};
-use value_domain::AbsVal;
 
 /// Whether a constant is the number 0.
 fn is_zero(constant: Constant) -> bool
@@ -46,7 +46,7 @@ impl<'a> Folder<'a> {
     #[tactic(auto, unfolding(crate::specs::Fold::folded_end))]
     fn branch(
         &self,
-        row: &[AbsVal],
+        row: &ValueRow,
         left: &Operand,
         cmp: Cmp,
         right: &Operand,
@@ -82,7 +82,7 @@ impl<'a> Folder<'a> {
     #[tactic(auto, unfolding(crate::specs::Fold::folded_end))]
     fn switch(
         &self,
-        row: &[AbsVal],
+        row: &ValueRow,
         on: &Operand,
         cases: &Cases,
         other: u64,
@@ -103,7 +103,7 @@ impl<'a> Folder<'a> {
 
     /// What is returned, by the result of the function.
     #[tactic(auto, unfolding(crate::specs::Fold::folded_end))]
-    fn returned(&self, row: &[AbsVal], value: &Operand) -> Result<End, OutOfMemory>
+    fn returned(&self, row: &ValueRow, value: &Operand) -> Result<End, OutOfMemory>
         requires folder { IsFolder self.now }
         requires fit { Fit self.now.scene row.now }
         ensures { IfOk result (λ e. e ≡ folded_end (folding_in self.now) row.now (End.Return (Some value.now))) }
@@ -116,7 +116,7 @@ impl<'a> Folder<'a> {
 
     /// The end of a block that is reached, by the values of all registers there.
     #[tactic(auto, unfolding(crate::specs::Fold::folded_end))]
-    pub(crate) fn end(&self, row: &[AbsVal], end: &End) -> Result<End, OutOfMemory>
+    pub(crate) fn end(&self, row: &ValueRow, end: &End) -> Result<End, OutOfMemory>
         requires folder { IsFolder self.now }
         requires fit { Fit self.now.scene row.now }
         requires passes { check.ending (folding_in self.now).env end.now ≡ Ok tt }

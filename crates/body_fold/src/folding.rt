@@ -3,6 +3,7 @@
 ghost use Rattle.std.specs.Prelude.{◌≡◌, ◌++◌, ◌<◌, ◌^◌, [], length, IfOk, OnOk};
 ghost use Rattle.gimple_ir.specs.Size.{size_of_program};
 ghost use Rattle.body_values.specs.Setting.{WereFound};
+ghost use Rattle.body_fold.specs.Claims.{FoldIsNoLarger};
 ghost use Rattle.body_fold.specs.Folders.{IsFoldOf};
 ghost use Rattle.body_fold.specs.Links.{unless_dropped, marked_blocks};
 ghost use Rattle.body_fold.specs.Settings.{IsFolderOf, IsFoldable};
@@ -113,7 +114,8 @@ pub fn fold_in(
     requires globals { length tables.now.program.program.globals < 2 ^ 32 }
     requires size { size_of_program tables.now.program.program < 2 ^ 32 }
     requires values { WereFound tables.now.program function values.now }
-    ensures { IfOk result (IsFoldOf tables.now.program function values.now) }
+    ensures folded { IfOk result (IsFoldOf tables.now.program function values.now) }
+    ensures counts { IfOk result (FoldIsNoLarger tables.now.program function) }
 {
     let program = tables.program();
     let of = &program.functions.as_slice()[function as usize];
@@ -124,7 +126,8 @@ pub fn fold_in(
 /// The function of a number with the constants put in that are known by the values of its registers: known results and
 /// operands become numbers, null or addresses of globals, known branches become jumps, and the blocks to which no path leads
 /// go. The values are those of this function of this program. Where they hold in each run, the program with this function
-/// in its place runs as before (`folding_keeps_runs`).
+/// in its place runs as before (`folding_keeps_runs`). It has no more statements, ends, blocks and branches, and the same
+/// name, formals, result, locals and registers.
 ///
 /// Err is want of memory.
 pub fn fold(
@@ -136,7 +139,8 @@ pub fn fold(
     requires globals { length program.now.program.globals < 2 ^ 32 }
     requires size { size_of_program program.now.program < 2 ^ 32 }
     requires values { WereFound program.now function values.now }
-    ensures { IfOk result (IsFoldOf program.now function values.now) }
+    ensures folded { IfOk result (IsFoldOf program.now function values.now) }
+    ensures counts { IfOk result (FoldIsNoLarger program.now function) }
 {
     let limits = values.limits().copy()?;
     let tables = ProgramTables::with(alloc, program, limits)?;

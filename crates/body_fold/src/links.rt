@@ -5,7 +5,7 @@ ghost use Rattle.graph_walk.specs.Graph.{AreMarks};
 ghost use Rattle.graph_walk.specs.Walk.{listed};
 ghost use Rattle.body_fold.specs.Links.{places_of, targets_of, all_targets, out_of};
 
-use body_values::{LabelledBlocks, labels_of};
+use block_flow::{LabelledBlocks, labels_of};
 use gimple_core::{Block, End, OutOfMemory};
 use graph_walk::reached_in;
 use std::alloc::Global;

@@ -10,12 +10,12 @@ ghost use Rattle.body_fold.specs.Folders.{folding_in, IsFolder};
 ghost use Rattle.body_fold.specs.Putting.{put_in, argument_of};
 
 use crate::folder::Folder;
+use body_values::ValueRow;
 use gimple_core::{
     Cmp, Constant, Exact, Listed, Op, Operand, Operands, OutOfMemory, Register, Scalar, Scalars,
     Text,
 };
 use std::alloc::Global;
-use value_domain::AbsVal;
 
 /// Both sides of a comparison.
 #[derive(Drop)]
@@ -64,7 +64,7 @@ impl<'a> Folder<'a> {
     #[tactic(auto, unfolding(crate::specs::Fold::constant_for))]
     fn constant_for(
         &self,
-        row: &[AbsVal],
+        row: &ValueRow,
         operand: &Operand,
     ) -> Result<Option<Operand>, OutOfMemory>
         requires folder { IsFolder self.now }
@@ -81,7 +81,7 @@ impl<'a> Folder<'a> {
     /// An operand of a scalar, with the constant that it is known to be in its place where that passes the check.
     pub(crate) fn operand(
         &self,
-        row: &[AbsVal],
+        row: &ValueRow,
         scalar: Scalar,
         operand: &Operand,
     ) -> Result<Operand, OutOfMemory>
@@ -103,7 +103,7 @@ impl<'a> Folder<'a> {
     /// The right side of an operator.
     pub(crate) fn right(
         &self,
-        row: &[AbsVal],
+        row: &ValueRow,
         scalar: Scalar,
         op: Op,
         right: &Operand,
@@ -124,7 +124,7 @@ impl<'a> Folder<'a> {
     }
 
     /// What is printed.
-    pub(crate) fn printed(&self, row: &[AbsVal], from: &Operand) -> Result<Operand, OutOfMemory>
+    pub(crate) fn printed(&self, row: &ValueRow, from: &Operand) -> Result<Operand, OutOfMemory>
         requires folder { IsFolder self.now }
         requires fit { Fit self.now.scene row.now }
         ensures { IfOk result (λ y. y ≡ folded_operand (folding_in self.now) row.now (check.printed (folding_in self.now).env) from.now) }
@@ -143,7 +143,7 @@ impl<'a> Folder<'a> {
     /// The constant that stands for the right side of a comparison, where it passes the check.
     fn right_constant(
         &self,
-        row: &[AbsVal],
+        row: &ValueRow,
         left: &Operand,
         cmp: Cmp,
         right: &Operand,
@@ -166,7 +166,7 @@ impl<'a> Folder<'a> {
     /// The left side of a comparison.
     fn left_side(
         &self,
-        row: &[AbsVal],
+        row: &ValueRow,
         left: &Operand,
         cmp: Cmp,
         right: &Operand,
@@ -189,7 +189,7 @@ impl<'a> Folder<'a> {
     /// Both sides of a comparison. A constant is put on the right side, and only where none is, on the left one.
     pub(crate) fn sides(
         &self,
-        row: &[AbsVal],
+        row: &ValueRow,
         left: &Operand,
         cmp: Cmp,
         right: &Operand,
@@ -225,7 +225,7 @@ impl<'a> Folder<'a> {
     /// An argument against the scalar of its formal.
     fn argument(
         &self,
-        row: &[AbsVal],
+        row: &ValueRow,
         formal: Option<&Scalar>,
         argument: &Operand,
     ) -> Result<Operand, OutOfMemory>
@@ -242,7 +242,7 @@ impl<'a> Folder<'a> {
     /// The arguments of a call against the scalars of its formals.
     pub(crate) fn arguments(
         &self,
-        row: &[AbsVal],
+        row: &ValueRow,
         formals: &[Scalar],
         arguments: &[Operand],
     ) -> Result<Operands, OutOfMemory>

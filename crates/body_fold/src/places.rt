@@ -11,11 +11,10 @@ ghost use Rattle.body_fold.specs.Folders.{folding_in, IsFolder};
 ghost use Rattle.body_fold.specs.Putting.{is_store, access_check};
 
 use crate::folder::Folder;
-use body_values::offset_of;
+use body_values::{ValueRow, offset_of};
 use gimple_core::{
     Base, Constant, Exact, Global as Variable, OutOfMemory, Place, Scalar, Text, wrap,
 };
-use value_domain::AbsVal;
 
 /// What is done at a place.
 #[derive(Clone, Copy)]
@@ -111,7 +110,7 @@ impl<'a> Folder<'a> {
     #[tactic(auto, unfolding(crate::specs::Fold::folded_place))]
     pub(crate) fn place(
         &self,
-        row: &[AbsVal],
+        row: &ValueRow,
         access: Access,
         scalar: Scalar,
         place: &Place,

@@ -9,18 +9,17 @@ ghost use Rattle.body_fold.specs.Folders.{folding_in, IsFolder};
 
 use crate::folder::Folder;
 use crate::places::Access;
-use body_values::{scalar_of, target};
+use body_values::{ValueRow, scalar_of, target};
 use gimple_core::{
     Cmp, Exact, Op, Operand, Operands, OutOfMemory, Place, Scalar, Signature, Stmt, Text,
 };
-use value_domain::AbsVal;
 
 impl<'a> Folder<'a> {
     /// A copy, with a constant in the place of what is copied.
     #[tactic(auto, unfolding(crate::specs::Fold::with_operands))]
     fn copied(
         &self,
-        row: &[AbsVal],
+        row: &ValueRow,
         scalar: Scalar,
         to: &Text,
         from: &Operand,
@@ -39,7 +38,7 @@ impl<'a> Folder<'a> {
     #[tactic(auto, unfolding(crate::specs::Fold::with_operands))]
     fn computed(
         &self,
-        row: &[AbsVal],
+        row: &ValueRow,
         scalar: Scalar,
         to: &Text,
         left: &Operand,
@@ -62,7 +61,7 @@ impl<'a> Folder<'a> {
     #[tactic(auto, unfolding(crate::specs::Fold::with_operands))]
     fn decided(
         &self,
-        row: &[AbsVal],
+        row: &ValueRow,
         scalar: Scalar,
         to: &Text,
         left: &Operand,
@@ -86,7 +85,7 @@ impl<'a> Folder<'a> {
     #[tactic(auto, unfolding(crate::specs::Fold::with_operands))]
     fn loaded(
         &self,
-        row: &[AbsVal],
+        row: &ValueRow,
         scalar: Scalar,
         to: &Text,
         from: Scalar,
@@ -107,7 +106,7 @@ impl<'a> Folder<'a> {
     #[tactic(auto, unfolding(crate::specs::Fold::with_operands))]
     fn stored(
         &self,
-        row: &[AbsVal],
+        row: &ValueRow,
         scalar: Scalar,
         at: Scalar,
         place: &Place,
@@ -128,7 +127,7 @@ impl<'a> Folder<'a> {
     #[tactic(auto, unfolding(crate::specs::Fold::with_operands))]
     fn called(
         &self,
-        row: &[AbsVal],
+        row: &ValueRow,
         scalar: Scalar,
         to: &Option<Text>,
         callee: &Text,
@@ -150,7 +149,7 @@ impl<'a> Folder<'a> {
     #[tactic(auto, unfolding(crate::specs::Fold::with_operands))]
     fn called_through(
         &self,
-        row: &[AbsVal],
+        row: &ValueRow,
         scalar: Scalar,
         to: &Option<Text>,
         signature: &Signature,
@@ -172,7 +171,7 @@ impl<'a> Folder<'a> {
 
     /// What is printed, with a constant in its place.
     #[tactic(auto, unfolding(crate::specs::Fold::with_operands))]
-    fn put_out(&self, row: &[AbsVal], scalar: Scalar, from: &Operand) -> Result<Stmt, OutOfMemory>
+    fn put_out(&self, row: &ValueRow, scalar: Scalar, from: &Operand) -> Result<Stmt, OutOfMemory>
         requires folder { IsFolder self.now }
         requires fit { Fit self.now.scene row.now }
         ensures { IfOk result (λ x. x ≡ with_operands (folding_in self.now) row.now scalar (Stmt.Put from.now)) }
@@ -186,7 +185,7 @@ impl<'a> Folder<'a> {
     #[tactic(auto, unfolding(crate::specs::Fold::with_operands))]
     fn with_operands(
         &self,
-        row: &[AbsVal],
+        row: &ValueRow,
         scalar: Scalar,
         statement: &Stmt,
     ) -> Result<Stmt, OutOfMemory>
@@ -246,7 +245,7 @@ impl<'a> Folder<'a> {
         &self,
         block: u32,
         index: u32,
-        row: &[AbsVal],
+        row: &ValueRow,
         to: &Text,
         statement: &Stmt,
     ) -> Result<Stmt, OutOfMemory>
@@ -279,7 +278,7 @@ impl<'a> Folder<'a> {
         &self,
         block: u32,
         index: u32,
-        row: &[AbsVal],
+        row: &ValueRow,
         statement: &Stmt,
     ) -> Result<Stmt, OutOfMemory>
         requires folder { IsFolder self.now }

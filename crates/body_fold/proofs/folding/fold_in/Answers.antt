@@ -2,6 +2,7 @@ use Rattle.std.proofs.Common.{◌≡◌, ◌<◌, List, length, sym, ◌∙◌, 
 use Rattle.gimple_ir.specs.declared.program.Function.{Function}
 use Rattle.gimple_ir.specs.declared.program.Program.{Program}
 use Rattle.body_values.proofs.Settled.{numbered}
+use Rattle.body_fold.proofs.Counted.{fold_no_larger}
 use Rattle.body_fold.proofs.Foldable.{number_within, foldable}
 use Rattle.body_fold.proofs.folding.fold_in.Goals as goal
 
@@ -16,3 +17,6 @@ fold_function-requires c =
     let there : slice_get c.args.tables.now.program.program.functions c.args.function ≡ Some c.index-as_slice-function.result =
     numbered c.program-program.result.now c.args.tables.now.program.program c.as_slice.result.now c.args.function c.index-as_slice-function.result c.program-program.ensures.same c.as_slice.ensures within c.index-as_slice-function.is in
     record { foldable = foldable c.args.tables.now.program c.args.function c.index-as_slice-function.result c.args.values.now there c.program-program.ensures.accepted c.requires.globals c.requires.size c.requires.values }
+
+pub returns-clause-counts : goal.returns-clause-counts
+returns-clause-counts c = fold_no_larger c.args.tables.now.program c.args.function c.args.values.now c.in_ok-folded.folded c.in_ok-folded.ensures
