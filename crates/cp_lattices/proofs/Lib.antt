@@ -1,0 +1,3 @@
+pub mod TrimLaws
+pub mod CarryLaws
+pub mod HoldLaws

@@ -1,0 +1,4 @@
+pub mod Trimmed
+pub mod Carried
+pub mod Makers
+pub mod Claims
