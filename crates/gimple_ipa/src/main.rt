@@ -7,6 +7,7 @@ use std::process::ExitCode;
 
 const HELP: &str = "Usage: gimple-ipa INPUT [OPTION]..
 Reads a program, optimises it and stores it. A name that is - is a standard stream.
+  --generate=N            a program of N functions that is made by a rule, in the place of INPUT
   -o FILE                 the output, which is - unless it is named
   -O0 -O1 -O2 -O3         which passes are on; -O0 unless one is named
   -fipa-PASS -fno-ipa-PASS

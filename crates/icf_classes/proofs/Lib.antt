@@ -2,8 +2,10 @@ pub mod Meaning
 pub mod Bodies
 pub mod Sending
 pub mod Numbers
-pub mod Classes
+pub mod Represented
 pub mod SentAccepted
 pub mod MergedLaws
 pub mod Marked
-pub mod Rounds
+pub mod Settling
+pub mod Reading
+pub mod Rows

@@ -27,7 +27,7 @@ use Rattle.icf_classes.specs.Congruence.{class_of, one_class, AreClasses}
 use Rattle.icf_classes.specs.Merged.{name_or, representative, sent, sent_stmt, sent_body, sent_block, sent_function, sent_program, is_kept, merged, IsMerged, MergingKeepsRuns}
 use Rattle.icf_classes.proofs.Sending.{sent_runs}
 use Rattle.icf_classes.proofs.SentAccepted.{sent_accepted}
-use Rattle.icf_classes.proofs.Classes.{classes_send, kept_closed}
+use Rattle.icf_classes.proofs.Represented.{classes_send, kept_closed}
 
 -- ---- the size
 

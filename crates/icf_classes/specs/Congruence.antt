@@ -1,20 +1,12 @@
 -- Which functions do the same by their form, where those that they call do.
-use Rattle.std.specs.Prelude.{◌≡◌, ℕ, ◌<◌, ◌≤◌, ◌==◌, true, false, Bool, List, [], ◌∷◌, length, slice_get, slice_index_or, Some}
+use Rattle.std.specs.Prelude.{◌≡◌, ℕ, ◌<◌, ◌≤◌, true, false, List, length, slice_get, Some}
 use Rattle.gimple_ir.specs.declared.program.Function.{Function}
 use Rattle.gimple_ir.specs.declared.program.Program.{Program}
 use Rattle.gimple_core.specs.Run.{main_name}
 use Rattle.icf_classes.specs.Placed.{placed_function, number_of, callees_of}
-
--- a relation between functions, by their numbers in a program
-abbrev pub Relation : Type 0
-Relation = ℕ → ℕ → Bool
-
--- as many on both sides, each related to the one at its place
-abbrev pub AreRelated : Relation → List ℕ → List ℕ → Type 0
-AreRelated R [] [] = Unit {0}
-AreRelated R [] (b ∷ bs) = ⊥
-AreRelated R (a ∷ rest) [] = ⊥
-AreRelated R (a ∷ rest) (b ∷ bs) = (R a b ≡ true) × AreRelated R rest bs
+-- Relations of functions by their numbers in a program. In a list of classes the item of a function is the number of what
+-- stands for it.
+pub use Rattle.partition_refinement.specs.Relations.{Relation, AreRelated, class_of, one_class}
 
 -- The same formal scalars, result, shapes and lengths of locals, scalars of registers, and blocks, with registers, locals
 -- and labels by position; and what the one calls by name is related to what the other calls there.
@@ -36,13 +28,6 @@ pub record InOneClass (p : Program) (i j : ℕ) : Type 0 where
   pub related : relation i j ≡ true
 
 -- ---- classes as a list
-
--- what stands for a function: its item, and for a number past the end the number itself
-abbrev pub class_of : List ℕ → ℕ → ℕ
-class_of classes i = slice_index_or classes i i
-
-abbrev pub one_class : List ℕ → Relation
-one_class classes i j = class_of classes i == class_of classes j
 
 -- `main` if it is in the class, else the first in file order
 pub record IsRepresentative (p : Program) (R : Relation) (i r : ℕ) : Type 0 where

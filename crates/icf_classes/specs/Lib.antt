@@ -1,5 +1,6 @@
 pub mod Placed
+pub mod Codes
 pub mod Congruence
 pub mod Merged
 pub mod Mergers
-pub mod Rounds
+pub mod Settled

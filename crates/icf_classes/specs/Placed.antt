@@ -21,25 +21,73 @@ use Rattle.gimple_ir.specs.declared.declarations.Decl.{Decl}
 use Rattle.gimple_ir.specs.declared.declarations.Register.{Register}
 use Rattle.gimple_ir.specs.declared.program.Function.{Function}
 use Rattle.gimple_ir.specs.declared.program.Program.{Program}
-pub use Rattle.icf_classes.specs.declared.placed.Seen.{Seen}
-pub use Rattle.icf_classes.specs.declared.placed.Seen.TheVariants.{Own, Outer}
-pub use Rattle.icf_classes.specs.declared.placed.PlacedOperand.{PlacedOperand}
-pub use Rattle.icf_classes.specs.declared.placed.PlacedOperand.TheVariants.{Reg, Number, Null, Address}
-pub use Rattle.icf_classes.specs.declared.placed.PlacedBase.{PlacedBase}
-pub use Rattle.icf_classes.specs.declared.placed.PlacedBase.TheVariants.{RegBase, Variable}
-pub use Rattle.icf_classes.specs.declared.placed.PlacedStmt.{PlacedStmt}
-pub use Rattle.icf_classes.specs.declared.placed.PlacedStmt.TheVariants.{Copy, Arith, Compare, Convert, Load, Store, Call, Indirect, Get, Put, Abort}
-pub use Rattle.icf_classes.specs.declared.placed.PlacedCase.{PlacedCase}
-pub use Rattle.icf_classes.specs.declared.placed.PlacedEnd.{PlacedEnd}
-pub use Rattle.icf_classes.specs.declared.placed.PlacedEnd.TheVariants.{Goto, If, Switch, Return}
-pub use Rattle.icf_classes.specs.declared.placed.PlacedBlock.{PlacedBlock}
-pub use Rattle.icf_classes.specs.declared.placed.PlacedLocal.{PlacedLocal}
-pub use Rattle.icf_classes.specs.declared.placed.PlacedFunction.{PlacedFunction}
 use Rattle.gimple_core.specs.State.{registers_of, register_place}
 
 -- a register or a label by its position, if there is one
 abbrev pub Spot : Type 0
 Spot = Option ℕ
+
+-- what a name means in memory: a local by its position, else the global or function of the name
+pub data Seen : Type 0 where
+  Own : ℕ → Seen
+  Outer : List ℕ → Seen
+
+-- an operand without names of its function; of an address what is seen, and the offset
+pub data PlacedOperand : Type 0 where
+  Reg : Spot → PlacedOperand
+  Number : ℤ → PlacedOperand
+  Null : PlacedOperand
+  Address : Seen → ℤ → PlacedOperand
+
+-- what an access starts from, without names of its function
+pub data PlacedBase : Type 0 where
+  RegBase : Spot → PlacedBase
+  Variable : Seen → PlacedBase
+
+-- A statement without names of its function, its parts in their order; of an access the base and the offset. A call by name
+-- says nothing of its callee.
+pub data PlacedStmt : Type 0 where
+  Copy : Spot → PlacedOperand → PlacedStmt
+  Arith : Spot → PlacedOperand → Op → PlacedOperand → PlacedStmt
+  Compare : Spot → PlacedOperand → Cmp → PlacedOperand → PlacedStmt
+  Convert : Spot → Scalar → PlacedOperand → PlacedStmt
+  Load : Spot → Scalar → PlacedBase → ℤ → PlacedStmt
+  Store : Scalar → PlacedBase → ℤ → PlacedOperand → PlacedStmt
+  Call : Option Spot → List PlacedOperand → PlacedStmt
+  Indirect : Option Spot → Signature → Spot → List PlacedOperand → PlacedStmt
+  Get : Spot → PlacedStmt
+  Put : PlacedOperand → PlacedStmt
+  Abort : PlacedStmt
+
+-- a case of a `switch`, which leads to a block by its position
+pub record PlacedCase : Type 0 where
+  pub value : ℤ
+  pub target : Spot
+
+-- how a block ends, without names of its function, and with blocks by their positions
+pub data PlacedEnd : Type 0 where
+  Goto : Spot → PlacedEnd
+  If : PlacedOperand → Cmp → PlacedOperand → Spot → Spot → PlacedEnd
+  Switch : PlacedOperand → List PlacedCase → Spot → PlacedEnd
+  Return : Option PlacedOperand → PlacedEnd
+
+-- a block without its label
+pub record PlacedBlock : Type 0 where
+  pub body : List PlacedStmt
+  pub end : PlacedEnd
+
+-- a local without its name
+pub record PlacedLocal : Type 0 where
+  pub shape : Shape
+  pub length : Option ℕ
+
+-- a function without names of its own, and without its callees
+pub record PlacedFunction : Type 0 where
+  pub params : List Scalar
+  pub result : Option Scalar
+  pub locals : List PlacedLocal
+  pub registers : List Scalar
+  pub blocks : List PlacedBlock
 
 -- ---- from names to positions
 

@@ -2,13 +2,15 @@
 //! is one.
 #![tactic(auto)]
 
+mod callees;
+mod coding;
+mod forms;
+mod largest;
 mod merger;
 mod merging;
-mod placed;
+mod placer;
+mod row;
 
 pub use gimple_core::Numbers;
+pub use largest::classes;
 pub use merging::{merge, merging_keeps_runs};
-pub use placed::{
-    PlacedBase, PlacedBlock, PlacedCase, PlacedEnd, PlacedFunction, PlacedLocal, PlacedOperand,
-    PlacedOperands, PlacedStmt, PlacedStmts, Seen, Spot,
-};

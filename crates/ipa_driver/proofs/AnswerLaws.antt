@@ -2,11 +2,14 @@
 use Rattle.std.proofs.Common.{◌≡◌, ◌⊎◌, inl, inr, ℕ, ◌+◌, ◌-◌, ◌≤◌, List, [], length, take, Option, Some, None, Result, Ok, Err, MatchResult, refl, sym, ◌∙◌, subst, arith}
 use Rattle.std.specs.Option.{IsSomeAnd, IfSome}
 use Rattle.shelf.specs.Outside.{Meaning, Contents, at_name, Rose, RoseBy, OnSource, LacksSource, Appends, IsToldCut}
+use Rattle.words.specs.declared.options.Name.{Name}
 use Rattle.words.specs.declared.options.SourceName.{SourceName}
+use Rattle.words.specs.declared.options.SourceName.TheVariants.{File, Generate}
 use Rattle.words.specs.Words.{bytes_of}
 use Rattle.gimple_ir.specs.declared.scalar.Mode.{Mode}
 use Rattle.gimple_ir.specs.declared.program.Program.{Program}
 use Rattle.gimple_core.specs.Sealed.{Sealed}
+use Rattle.gimple_gen.specs.Generated.{generated}
 use Rattle.gimple_text.specs.declared.fault.TextFault.{TextFault}
 use Rattle.gimple_text.specs.declared.fault.TextFault.TheVariants.{BadByte, BadToken, EarlyEnd, Memory as TextMemory}
 use Rattle.gimple_text.specs.Parse.{TextFaultOf}
@@ -19,7 +22,8 @@ use Rattle.ipa_driver.specs.declared.finish.Finish.{Finish}
 use Rattle.ipa_driver.specs.declared.finish.Fault.TheVariants.{Usage, Read, Long, Text, Types, Write, Memory}
 use Rattle.ipa_driver.specs.Stores.{IsCut}
 use Rattle.ipa_driver.specs.Verdict.{LIMIT, Verdict, TooLong, BadText, BadTypes, Good, IsVerdict}
-use Rattle.ipa_driver.specs.Answers.{input_of, HasVerdict, IsOfText, Refused, IsGoodSource, Answer, IsComplete, IsDone, TellsOne, TopAnswers, WithinRoom, NoneRose, MadeOf, fault_status}
+use Rattle.ipa_driver.specs.Source.{input_name, HasVerdict, IsUnread, IsGoodSource, WithinRoom, MadeOf}
+use Rattle.ipa_driver.specs.Answers.{IsOfText, Refused, Answer, IsComplete, IsDone, TellsOne, TopAnswers, NoneRose, fault_status}
 use Rattle.ipa_driver.specs.Work.{LoadsText, Judges, IsLoaded, WorkKeeps, WorkSure, MessageTold}
 use Rattle.ipa_driver.proofs.VerdictLaws.{one}
 
@@ -40,21 +44,21 @@ of_text bytes (EarlyEnd spot) h = tt
 of_text bytes (TextMemory want) h = h
 
 -- what was judged of the text is the verdict on the source
-pub judged : (words : List (List ℕ)) (source : SourceName) (mode : Mode) (old new : Meaning) (text : List ℕ) (r : Result Sealed Fault) → LoadsText (bytes_of words (input_of source)) old new text → Judges text mode r → MatchResult r (IsLoaded words source mode old new) (Refused words source old new)
-judged words source mode old new text (Ok checked) l j = record {
-  good = fetched (λ bytes. IsVerdict bytes (Good checked.program)) text j.0 old.sources (bytes_of words (input_of source)) l.source;
+pub judged : (words : List (List ℕ)) (file : Name) (mode : Mode) (old new : Meaning) (text : List ℕ) (r : Result Sealed Fault) → LoadsText (bytes_of words file) old new text → Judges text mode r → MatchResult r (IsLoaded words (File file) mode old new) (Refused words (File file) old new)
+judged words file mode old new text (Ok checked) l j = record {
+  good = fetched (λ bytes. IsVerdict bytes (Good checked.program)) text j.0 old.sources (bytes_of words file) l.source;
   spellable = spelled_spellable text checked.program j.0.spelled;
   countable = countable text checked.program j.0.spelled (omega (arith, j.0.within));
   mode = j.1;
   read = l.read;
 }
-judged words source mode old new text (Err (Text f)) l j = (of_text text f j.fault, fetched (λ bytes. IsVerdict bytes (BadText f)) text j old.sources (bytes_of words (input_of source)) l.source)
-judged words source mode old new text (Err (Types f)) l j = fetched (λ bytes. IsVerdict bytes (BadTypes f)) text j old.sources (bytes_of words (input_of source)) l.source
-judged words source mode old new text (Err Memory) l j = tt
-judged words source mode old new text (Err (Usage f)) l j = j
-judged words source mode old new text (Err Read) l j = absurd j
-judged words source mode old new text (Err Long) l j = absurd j
-judged words source mode old new text (Err (Write name)) l j = j
+judged words file mode old new text (Err (Text f)) l j = (of_text text f j.fault, fetched (λ bytes. IsVerdict bytes (BadText f)) text j old.sources (bytes_of words file) l.source)
+judged words file mode old new text (Err (Types f)) l j = fetched (λ bytes. IsVerdict bytes (BadTypes f)) text j old.sources (bytes_of words file) l.source
+judged words file mode old new text (Err Memory) l j = tt
+judged words file mode old new text (Err (Usage f)) l j = j
+judged words file mode old new text (Err Read) l j = absurd j
+judged words file mode old new text (Err Long) l j = absurd j
+judged words file mode old new text (Err (Write name)) l j = j
 
 -- a source that is told and good has no other verdict
 module _ (v : Verdict) where
@@ -63,22 +67,27 @@ module _ (v : Verdict) where
   some_good (Some bytes) h g = (g.0, one bytes v (Good g.0) h g.1)
 
   good : (sources : Option Contents) (words : List (List ℕ)) (source : SourceName) → HasVerdict sources words source v → IsGoodSource words source sources → (p : Program) × (v ≡ Good p)
-  good None words source h g = absurd g
-  good (Some m) words source h g = some_good (at_name m (bytes_of words (input_of source))) h g
+  good None words (File name) h g = absurd g
+  good (Some m) words (File name) h g = some_good (at_name m (bytes_of words name)) h g
+  good sources words (Generate n) h g = (generated n, h)
 
 some_lacks : (found : Option (List ℕ)) (P : List ℕ → Type 0) → found ≡ None → IsSomeAnd found P → ⊥
 some_lacks None P e h = h
 some_lacks (Some bytes) P e h = absurd cc
 
-lacks : (sources : Option Contents) (words : List (List ℕ)) (source : SourceName) → LacksSource sources (bytes_of words (input_of source)) → IsGoodSource words source sources → ⊥
-lacks None words source h g = g
-lacks (Some m) words source h g = some_lacks (at_name m (bytes_of words (input_of source))) (λ bytes. (p : Program) × IsVerdict bytes (Good p)) h g
+lacks : (sources : Option Contents) (words : List (List ℕ)) (name : Name) → LacksSource sources (bytes_of words name) → IsGoodSource words (File name) sources → ⊥
+lacks None words name h g = g
+lacks (Some m) words name h g = some_lacks (at_name m (bytes_of words name)) (λ bytes. (p : Program) × IsVerdict bytes (Good p)) h g
+
+-- a good source is read, unless the shelf fails
+unread : (words : List (List ℕ)) (source : SourceName) (old new : Meaning) → IsUnread words source old new → IsGoodSource words source old.sources → (Rose old.read_faults new.read_faults → ⊥) → ⊥
+unread words (File name) old new h g read = elim h [ inl rose ↦ read rose | inr lacking ↦ lacks old.sources words name lacking g ]
+unread words (Generate n) old new h g read = h
 
 pub complete : (words : List (List ℕ)) (input : SourceName) (Makes : MadeOf) (old new : Meaning) (fault : Option Fault) → Answer words input Makes old new fault → IsComplete words input old new fault
 complete words input Makes old new None a g read write = inl refl
 complete words input Makes old new (Some (Usage f)) a g read write = absurd a.0
-complete words input Makes old new (Some Read) a g read write =
-    elim a.0 [ inl rose ↦ absurd (read rose) | inr lacking ↦ absurd (lacks old.sources words input lacking g) ]
+complete words input Makes old new (Some Read) a g read write = absurd (unread words input old new a.0 g read)
 complete words input Makes old new (Some Long) a g read write =
     let e = good TooLong old.sources words input a.0.1 g in let x : TooLong ≡ Good e.0 = e.1 in absurd cc
 complete words input Makes old new (Some (Text f)) a g read write =
@@ -88,12 +97,16 @@ complete words input Makes old new (Some (Types f)) a g read write =
 complete words input Makes old new (Some (Write name)) a g read write = absurd (write a.rose)
 complete words input Makes old new (Some Memory) a g read write = inr refl
 
+unread_after : (words : List (List ℕ)) (source : SourceName) (old mid new : Meaning) → new.read_faults ≡ mid.read_faults → IsUnread words source old mid → IsUnread words source old new
+unread_after words (File name) old mid new read h = subst (λ n. Rose old.read_faults n ⊎ LacksSource old.sources (bytes_of words name)) (sym read) h
+unread_after words (Generate n) old mid new read h = h
+
 -- A tell leaves the answer as it is.
 module _ (words : List (List ℕ)) (input : SourceName) (Makes : MadeOf) (old mid new : Meaning)
     (stores : new.stores ≡ mid.stores) (read : new.read_faults ≡ mid.read_faults) (write : new.write_faults ≡ mid.write_faults) (taken : new.taken ≡ mid.taken) where
   pub answer_after : (fault : Fault) → Answer words input Makes old mid (Some fault) → Answer words input Makes old new (Some fault)
   answer_after (Usage f) a = (a.0, stores ∙ a.1, write ∙ a.2)
-  answer_after Read a = (subst (λ n. Rose old.read_faults n ⊎ LacksSource old.sources (bytes_of words (input_of input))) (sym read) a.0, stores ∙ a.1, write ∙ a.2)
+  answer_after Read a = (unread_after words input old mid new read a.0, stores ∙ a.1, write ∙ a.2)
   answer_after Long a = ((subst (λ n. RoseBy (LIMIT + 1) old.taken n) (sym taken) a.0.0, a.0.1), stores ∙ a.1, write ∙ a.2)
   answer_after (Text f) a = (a.0, stores ∙ a.1, write ∙ a.2)
   answer_after (Types f) a = (a.0, stores ∙ a.1, write ∙ a.2)
@@ -168,14 +181,14 @@ module _ {X : Type 0} (tool : Tool) (words : List (List ℕ)) (read : Result X U
 
   -- something failed behind the words, and is told
   pub top_failed : (o : X) (fault : Fault) → read ≡ Ok o → WorkKeeps old mid → Answer words (source o) (Makes o) old mid (Some fault) → WorkSure words (source o) (Makes o) old mid (Err fault)
-      → MessageTold tool (bytes_of words (input_of (source o))) words fault mid new → Ends read (record { status = fault_status fault; fault = Some fault })
+      → MessageTold tool (input_name words (source o)) words fault mid new → Ends read (record { status = fault_status fault; fault = Some fault })
   top_failed o fault lawful keeps a sure t =
       let after = answer_after words (source o) (Makes o) old mid new t.tells.stores t.tells.read t.tells.write t.tells.taken fault a in
       let fits : (r : ℕ) → WithinRoom words (source o) (Makes o) old.sources r → WithinRoom words (source o) (Makes o) old.sources r = λ r can. can in
       subst (λ r. Ends r (record { status = fault_status fault; fault = Some fault })) (sym lawful) (record {
         status = refl;
         answer = after;
-        told = told_after tool words (source o) (Makes o) fault (bytes_of words (input_of (source o))) (WithinRoom words (source o) (Makes o) old.sources) old mid new keeps t fits sure;
+        told = told_after tool words (source o) (Makes o) fault (input_name words (source o)) (WithinRoom words (source o) (Makes o) old.sources) old mid new keeps t fits sure;
         complete = complete words (source o) (Makes o) old new (Some fault) after;
       })
 

@@ -16,6 +16,7 @@ use Rattle.ipa_driver.specs.declared.passes.Asked.{Asked}
 use Rattle.ipa_driver.specs.declared.passes.Legs.{Legs}
 use Rattle.ipa_driver.specs.declared.passes.Product.{Product}
 use Rattle.ipa_driver.specs.Legs.{IsLeg, IsIdle, NotBuilt}
+use Rattle.ipa_driver.proofs.IcfLaws.{icf_replaces, icf_shrinks}
 use Rattle.ipa_driver.specs.Pipeline.{AreLegs, DropsUnreached, IsPipeline, IsMade}
 
 -- ---- one leg
@@ -30,23 +31,21 @@ idle_program false name p asked leg h = h.program
 
 -- ---- the legs
 
-module _ (p : Sealed) (asked : Asked) (passes : Passes) (legs : Legs) (h : AreLegs p asked passes legs) where
-  pub folded_program : h.folded.program ≡ p
-  folded_program = idle_program passes.icf _ p asked.icf h.folded h.icf
-
-  last_program : h.cleared.program ≡ p
+module _ (p : Sealed) (asked : Asked) (passes : Passes) (legs : Legs) (accepted : IsAccepted p.program) (h : AreLegs p asked passes legs) where
+  last_program : h.cleared.program ≡ h.folded.program
   last_program =
       idle_program passes.modref _ h.split.program asked.modref h.cleared h.modref
       ∙ idle_program passes.sra _ h.propagated.program asked.sra h.split h.sra
       ∙ idle_program passes.cp _ h.folded.program asked.cp h.propagated h.cp
-      ∙ folded_program
 
-  pub legs_program : legs.program ≡ p
+  pub legs_program : legs.program ≡ h.folded.program
   legs_program = ap (λ (l : Legs). l.program) h.kept ∙ last_program
 
-  -- the legs of a program that can be counted
-  pub legs_countable : IsCountable p.program → IsCountable legs.program.program
-  legs_countable n = subst (λ (s : Sealed). IsCountable s.program) (sym legs_program) n
+  pub folded_shrinks : size_of_program h.folded.program.program ≤ size_of_program p.program
+  folded_shrinks = icf_shrinks p asked.icf h.folded accepted passes.icf h.icf
+
+  pub legs_replace : Replaces 1 p legs.program
+  legs_replace = subst (λ (s : Sealed). Replaces 1 p s) (sym legs_program) (icf_replaces p asked.icf h.folded accepted passes.icf h.icf)
 
 -- ---- the pipeline
 
@@ -75,30 +74,38 @@ counted_once n q h = let same : 1 * n ≡ n = omega arith in subst (λ m. Counts
 pub still_countable : (p q : Sealed) → Replaces 1 p q → IsCountable p.program → IsCountable q.program
 still_countable p q r n = counted_once (2 ^ 32) q.program (r.counts (2 ^ 32) n)
 
+-- what the legs give can be counted
+pub behind_legs : (p reached : Sealed) (asked : Asked) (passes : Passes) (legs : Legs) → Replaces 1 p reached → AreLegs reached asked passes legs → IsCountable p.program → IsCountable legs.program.program
+behind_legs p reached asked passes legs r h n = still_countable reached legs.program (legs_replace reached asked passes legs r.accepted h) (still_countable p reached r n)
+
 module _ (p : Sealed) (asked : Asked) (passes : Passes) (params : Params) (product : Product) (accepted : IsAccepted p.program) (h : IsPipeline p asked passes params product) where
   first : Replaces 1 p h.reached
   first = drop_replaces p h.reached accepted h.drops
 
-  again : DropsUnreached h.reached product.program
-  again = subst (λ (s : Sealed). DropsUnreached s product.program) (legs_program h.reached asked passes h.legs h.passed) h.drops_again
+  between : Replaces 1 h.reached h.legs.program
+  between = legs_replace h.reached asked passes h.legs first.accepted h.passed
 
   pub replaces : Replaces 1 p product.program
-  replaces = replaces_in_turn 1 1 p h.reached product.program first (drop_replaces h.reached product.program first.accepted again)
+  replaces =
+      replaces_in_turn 1 1 p h.legs.program product.program
+      (replaces_in_turn 1 1 p h.reached h.legs.program first between)
+      (drop_replaces h.legs.program product.program between.accepted h.drops_again)
 
-  entering : h.passed.folded.program ≡ h.reached
-  entering = folded_program h.reached asked passes h.legs h.passed
+  entering_size : size_of_program h.passed.folded.program.program ≤ size_of_program p.program
+  entering_size = le_trans (folded_shrinks h.reached asked passes h.legs first.accepted h.passed) (dropped_size p h.reached h.drops)
+
+  last_size : size_of_program product.program.program ≤ size_of_program h.passed.folded.program.program
+  last_size =
+      subst (λ (s : Sealed). size_of_program product.program.program ≤ size_of_program s.program) (legs_program h.reached asked passes h.legs first.accepted h.passed) (dropped_size h.legs.program product.program h.drops_again)
 
   pub made : IsMade p asked passes params product
-  made =
-      let before = dropped_size p h.reached h.drops in
-      let after = dropped_size h.reached product.program again in
-      record {
-        pipeline = h;
-        sound = record {
-          accepted = replaces.accepted;
-          mode = replaces.mode;
-          runs = replaces.runs;
-          entering_size = subst (λ (s : Sealed). size_of_program s.program ≤ size_of_program p.program) (sym entering) before;
-          size = le_trans (subst (λ (s : Sealed). size_of_program product.program.program ≤ size_of_program s.program) (sym entering) after) (within_bound (size_of_program h.passed.folded.program.program) passes params);
-        };
-      }
+  made = record {
+    pipeline = h;
+    sound = record {
+      accepted = replaces.accepted;
+      mode = replaces.mode;
+      runs = replaces.runs;
+      entering_size = entering_size;
+      size = le_trans last_size (within_bound (size_of_program h.passed.folded.program.program) passes params);
+    };
+  }

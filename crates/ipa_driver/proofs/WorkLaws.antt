@@ -2,16 +2,19 @@
 use Rattle.std.proofs.Common.{◌≡◌, ℕ, ◌-◌, ◌≤◌, List, Option, Some, None, Result, Ok, Err, sym, ◌∙◌, subst}
 use Rattle.std.specs.Prelude.{IsOkAnd}
 use Rattle.std.specs.Option.{IsSomeAnd, IfSome}
-use Rattle.shelf.specs.Outside.{Meaning, Contents, at_name, OnSource}
+use Rattle.shelf.specs.Outside.{Meaning, Contents, at_name}
 use Rattle.words.specs.declared.options.Name.{Name}
 use Rattle.words.specs.declared.options.SourceName.{SourceName}
+use Rattle.words.specs.declared.options.SourceName.TheVariants.{File, Generate}
 use Rattle.words.specs.Words.{bytes_of}
 use Rattle.gimple_ir.specs.declared.scalar.Mode.{Mode}
 use Rattle.gimple_core.specs.Sealed.{Sealed}
+use Rattle.gimple_gen.specs.Generated.{generated}
 use Rattle.ipa_driver.specs.declared.outputs.Output.{Output}
 use Rattle.ipa_driver.specs.Verdict.{Good, IsVerdict}
 use Rattle.ipa_driver.specs.Stores.{pairs, total, StoresOnly, AreStored, IsCut, IsStoreFault, StaysSure}
-use Rattle.ipa_driver.specs.Answers.{input_of, MadeOf, IsDone, IsNotWritten, CostsAtMost, WithinRoom}
+use Rattle.ipa_driver.specs.Source.{HasVerdict, MadeOf, CostsAtMost, WithinRoom}
+use Rattle.ipa_driver.specs.Answers.{IsDone, IsNotWritten}
 use Rattle.ipa_driver.specs.Work.{Loads, IsLoaded}
 
 module _ (words : List (List ℕ)) (input : SourceName) (mode : Mode) (Makes : MadeOf) (old mid new : Meaning) (checked : Sealed) (outputs : List Output)
@@ -44,14 +47,17 @@ module _ (words : List (List ℕ)) (input : SourceName) (mode : Mode) (Makes : M
   some_fits r None h room = absurd h
   some_fits r (Some bytes) h room = room checked.program h outputs made
 
-  source_fits : (r : ℕ) (sources : Option Contents) → OnSource sources (bytes_of words (input_of input)) (λ bytes. IsVerdict bytes (Good checked.program)) → WithinRoom words input Makes sources r → total (pairs words outputs) ≤ r
-  source_fits r None h room = absurd room
-  source_fits r (Some m) h room = some_fits r (at_name m (bytes_of words (input_of input))) h room
+  source_fits : (r : ℕ) (sources : Option Contents) (source : SourceName) → HasVerdict sources words source (Good checked.program) → WithinRoom words source Makes sources r → total (pairs words outputs) ≤ r
+  source_fits r None (File name) h room = absurd room
+  source_fits r (Some m) (File name) h room = some_fits r (at_name m (bytes_of words name)) h room
+  source_fits r sources (Generate n) h room =
+      let same : checked.program ≡ generated n = cc in
+      room outputs (subst (λ p. Makes p outputs) same made)
 
   surely : (r : ℕ) (result : Result (Unit {0}) Name) → StaysSure words outputs mid new result → mid.sure ≡ Some r → WithinRoom words input Makes old.sources r → IsOkAnd result (λ _. (new.write_faults ≡ mid.write_faults) × (new.sure ≡ Some (r - total (pairs words outputs))))
   surely r result h e room =
       let s = subst (λ (m : Option ℕ). IfSome m (λ r. total (pairs words outputs) ≤ r → IsOkAnd result (λ _. (new.write_faults ≡ mid.write_faults) × (new.sure ≡ Some (r - total (pairs words outputs)))))) e h in
-      s (source_fits r old.sources loaded.good room)
+      s (source_fits r old.sources input loaded.good room)
 
   some_done : (s : Option ℕ) → IfSome s (λ r. (mid.sure ≡ Some r) × (mid.read_faults ≡ old.read_faults)) → StaysSure words outputs mid new (Ok tt) → IfSome s (λ r. WithinRoom words input Makes old.sources r → (new.read_faults ≡ old.read_faults) × (new.write_faults ≡ old.write_faults) × Unit {0})
   some_done None l h = tt

@@ -1,12 +1,10 @@
 -- How a run answers, and the cause of each answer.
-use Rattle.std.specs.Prelude.{◌≡◌, ◌⊎◌, ℕ, ◌+◌, ◌≤◌, List, [], length, Option, None, Some, IfSome, IsSomeAnd, Result, Ok, Err, IfOk, MatchResult, ⊤}
+use Rattle.std.specs.Prelude.{◌≡◌, ◌⊎◌, ℕ, ◌+◌, ◌≤◌, List, [], length, Option, None, Some, IfSome, Result, Ok, Err, IfOk, MatchResult, ⊤}
 use Rattle.std.specs.Option.{option_map}
-use Rattle.shelf.specs.Outside.{Meaning, Contents, at_name, put_all, Rose, RoseBy, OnSource, LacksSource, Appends, IsToldCut}
+use Rattle.shelf.specs.Outside.{Meaning, Contents, put_all, Rose, RoseBy, Appends, IsToldCut}
 use Rattle.words.specs.declared.options.Name.{Name}
 use Rattle.words.specs.declared.options.SourceName.{SourceName}
-use Rattle.words.specs.declared.options.SourceName.TheVariants.{File}
 use Rattle.words.specs.declared.options.UsageFault.{UsageFault}
-use Rattle.words.specs.Words.{bytes_of}
 use Rattle.gimple_ir.specs.declared.program.Program.{Program}
 use Rattle.gimple_text.specs.declared.fault.TextFault.{TextFault}
 use Rattle.gimple_text.specs.declared.fault.TextFault.TheVariants.{BadByte, BadToken, EarlyEnd, Memory as TextMemory}
@@ -15,8 +13,9 @@ use Rattle.ipa_driver.specs.declared.finish.Finish.{Finish}
 use Rattle.ipa_driver.specs.declared.finish.Fault.TheVariants.{Usage, Read, Long, Text, Types, Write, Memory}
 use Rattle.ipa_driver.specs.declared.outputs.Output.{Output}
 use Rattle.ipa_driver.specs.declared.tool.Tool.{Tool}
-use Rattle.ipa_driver.specs.Verdict.{LIMIT, Verdict, TooLong, BadText, BadTypes, Good, IsVerdict}
-use Rattle.ipa_driver.specs.Stores.{pairs, total, IsCut}
+use Rattle.ipa_driver.specs.Verdict.{LIMIT, TooLong, BadText, BadTypes, Good}
+use Rattle.ipa_driver.specs.Source.{input_name, HasVerdict, IsUnread, MadeOf, WithinRoom, IsGoodSource}
+use Rattle.ipa_driver.specs.Stores.{pairs, IsCut}
 use Rattle.ipa_driver.specs.Messages.{message_of, memory_line}
 
 -- statuses
@@ -34,18 +33,6 @@ abbrev pub status_of : Option Fault → ℕ
 status_of None = 0
 status_of (Some f) = fault_status f
 
--- the source
-
-abbrev pub input_of : SourceName → Name
-input_of (File name) = name
-
--- what the shelf has under the input's name is this, where sources are told
-abbrev pub OnInput : Option Contents → List (List ℕ) → SourceName → (List ℕ → Type 0) → Type 0
-OnInput sources words source P = OnSource sources (bytes_of words (input_of source)) P
-
-abbrev pub HasVerdict : Option Contents → List (List ℕ) → SourceName → Verdict → Type 0
-HasVerdict sources words source v = OnInput sources words source (λ bytes. IsVerdict bytes v)
-
 -- a fault that a text can have, which is never want of memory
 abbrev pub IsOfText : TextFault → Type 0
 IsOfText (BadByte spot) = ⊤
@@ -56,18 +43,13 @@ IsOfText (TextMemory want) = ⊥
 -- the rows of the table of answers that come before any store
 abbrev pub Refused : List (List ℕ) → SourceName → Meaning → Meaning → Fault → Type 0
 Refused words source old new (Usage f) = ⊥
-Refused words source old new Read =
-    Rose old.read_faults new.read_faults ⊎ LacksSource old.sources (bytes_of words (input_of source))
+Refused words source old new Read = IsUnread words source old new
 Refused words source old new Long =
     RoseBy (LIMIT + 1) old.taken new.taken × HasVerdict old.sources words source TooLong
 Refused words source old new (Text f) = IsOfText f × HasVerdict old.sources words source (BadText f)
 Refused words source old new (Types f) = HasVerdict old.sources words source (BadTypes f)
 Refused words source old new (Write name) = ⊥
 Refused words source old new Memory = ⊤
-
--- which lists of outputs a run on a program may have
-abbrev pub MadeOf : Type 1
-MadeOf = Program → List Output → Type 0
 
 -- Status 0: the source is good, every text made of it is stored, and nothing else is touched or told.
 pub record IsDone (words : List (List ℕ)) (input : SourceName) (Makes : MadeOf) (old new : Meaning) : Type 0 where
@@ -116,16 +98,6 @@ pub record NoneRose (old new : Meaning) : Type 0 where
   pub write : new.write_faults ≡ old.write_faults
   pub tell : new.tell_faults ≡ old.tell_faults
 
--- all texts that a run on this source may store cost at most this many bytes
-abbrev pub CostsAtMost : List (List ℕ) → MadeOf → ℕ → List ℕ → Type 0
-CostsAtMost words Makes r bytes =
-    (p : Program) → IsVerdict bytes (Good p) → (outputs : List Output) → Makes p outputs → total (pairs words outputs) ≤ r
-
--- sources are told, and there is so much room for what is made of the source, if it is there and good
-abbrev pub WithinRoom : List (List ℕ) → SourceName → MadeOf → Option Contents → ℕ → Type 0
-WithinRoom words input Makes sources r =
-    IsSomeAnd sources (λ m. IfSome (at_name m (bytes_of words (input_of input))) (CostsAtMost words Makes r))
-
 -- A run that ends otherwise than with status 0 tells one message. Where it surely fits, as all stores do, it is told whole,
 -- and no count of faults rises.
 pub record TellsOne (tool : Tool) (input : List ℕ) (words : List (List ℕ)) (Fits : ℕ → Type 0) (fault : Fault) (old new : Meaning) : Type 0 where
@@ -135,11 +107,6 @@ pub record TellsOne (tool : Tool) (input : List ℕ) (words : List (List ℕ)) (
   pub sure : IfSome old.sure (λ r. length message ≤ r → Fits r → NoneRose old new × Appends old.told new.told message)
 
 -- completeness
-
--- the source is told, there and good
-abbrev pub IsGoodSource : List (List ℕ) → SourceName → Option Contents → Type 0
-IsGoodSource words source sources =
-    IsSomeAnd sources (λ m. IsSomeAnd (at_name m (bytes_of words (input_of source))) (λ bytes. (p : Program) × IsVerdict bytes (Good p)))
 
 -- With a good source and a shelf that did not fail, the run is done, or memory was wanting.
 abbrev pub IsComplete : List (List ℕ) → SourceName → Meaning → Meaning → Option Fault → Type 0
@@ -152,9 +119,9 @@ IsComplete words input old new fault =
 -- ---- a top call
 
 -- the input's name, where the words are lawful
-abbrev pub input_name : {X : Type 0} → List (List ℕ) → (X → SourceName) → Result X UsageFault → List ℕ
-input_name words source (Ok o) = bytes_of words (input_of (source o))
-input_name words source (Err f) = []
+abbrev pub named_input : {X : Type 0} → List (List ℕ) → (X → SourceName) → Result X UsageFault → List ℕ
+named_input words source (Ok o) = input_name words (source o)
+named_input words source (Err f) = []
 
 -- there is room for all outputs, if the words are lawful and the source is there and good
 abbrev pub CanStore : {X : Type 0} → List (List ℕ) → (X → SourceName) → (X → MadeOf) → Option Contents → Result X UsageFault → ℕ → Type 0
@@ -167,6 +134,6 @@ pub record TopAnswers {X : Type 0} (tool : Tool) (words : List (List ℕ)) (read
   -- the row of the table of answers
   pub answer : MatchResult read (λ o. Answer words (source o) (Makes o) old new finish.fault) (λ f. IsMisused f old new finish.fault)
   -- one message where the status is not 0
-  pub told : IfSome finish.fault (λ fault. TellsOne tool (input_name words source read) words (CanStore words source Makes old.sources read) fault old new)
+  pub told : IfSome finish.fault (λ fault. TellsOne tool (named_input words source read) words (CanStore words source Makes old.sources read) fault old new)
   -- lawful words and a good source are enough where the shelf did not fail
   pub complete : IfOk read (λ o. IsComplete words (source o) old new finish.fault)

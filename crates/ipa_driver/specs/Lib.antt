@@ -2,8 +2,10 @@ pub mod Verdict
 pub mod Summary
 pub mod Graph
 pub mod Legs
+pub mod Icf
 pub mod Pipeline
 pub mod Stores
+pub mod Source
 pub mod Messages
 pub mod Answers
 pub mod Work

@@ -16,6 +16,7 @@ use Rattle.ipa_driver.specs.declared.passes.Asked.{Asked}
 use Rattle.ipa_driver.specs.declared.passes.Legs.{Legs}
 use Rattle.ipa_driver.specs.declared.passes.Product.{Product}
 use Rattle.ipa_driver.specs.Graph.{IsGraphText}
+use Rattle.ipa_driver.specs.Icf.{FoldsIdentical}
 use Rattle.ipa_driver.specs.Legs.{IsLeg, NotBuilt, asked_text}
 use Rattle.ipa_driver.specs.Summary.{all_counts, measure_of, summary_text}
 
@@ -30,7 +31,7 @@ pub record AreLegs (p : Sealed) (asked : Asked) (passes : Passes) (legs : Legs) 
   pub propagated : Leg
   pub split : Leg
   pub cleared : Leg
-  pub icf : IsLeg passes.icf (codes "icf") (NotBuilt (codes "icf")) p asked.icf folded
+  pub icf : IsLeg passes.icf (codes "icf") FoldsIdentical p asked.icf folded
   pub cp : IsLeg passes.cp (codes "cp") (NotBuilt (codes "cp")) folded.program asked.cp propagated
   pub sra : IsLeg passes.sra (codes "sra") (NotBuilt (codes "sra")) propagated.program asked.sra split
   pub modref : IsLeg passes.modref (codes "modref") (NotBuilt (codes "modref")) split.program asked.modref cleared

@@ -10,7 +10,8 @@ use Rattle.ipa_driver.specs.declared.tool.Tool.{Tool}
 use Rattle.ipa_driver.specs.declared.finish.Fault.{Fault}
 use Rattle.ipa_driver.specs.declared.finish.Fault.TheVariants.{Read, Long, Text, Types, Memory}
 use Rattle.ipa_driver.specs.Verdict.{LIMIT, BadText, BadTypes, Good, IsVerdict}
-use Rattle.ipa_driver.specs.Answers.{HasVerdict, MadeOf, IsMessage, WithinRoom}
+use Rattle.ipa_driver.specs.Source.{HasVerdict, MadeOf, WithinRoom}
+use Rattle.ipa_driver.specs.Answers.{IsMessage}
 
 -- what stays the same until every text is made
 pub record Loads (old new : Meaning) : Type 0 where
@@ -45,7 +46,7 @@ Judges text mode (Err (Types f)) = IsVerdict text (BadTypes f)
 Judges text mode (Err Memory) = ⊤
 Judges text mode (Err f) = ⊥
 
--- a program that was fetched and accepted, in this mode
+-- a program that was fetched and accepted or generated, in this mode
 pub record IsLoaded (words : List (List ℕ)) (source : SourceName) (wanted : Mode) (old new : Meaning) (checked : Sealed) : Type 0 where
   pub good : HasVerdict old.sources words source (Good checked.program)
   pub spellable : IsSpellable checked.program

@@ -4,6 +4,7 @@
 mod fault_texts;
 mod finish;
 mod graph;
+mod icf;
 mod legs;
 mod load;
 mod message;

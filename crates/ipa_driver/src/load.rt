@@ -1,27 +1,32 @@
 //! The fetch, the reader and the checker.
 
 ghost use Rattle.std.specs.Prelude.{◌≡◌, MatchResult, length, ◌≤◌};
-ghost use Rattle.words.specs.Words.{bytes_of};
-ghost use Rattle.ipa_driver.specs.Answers.{Refused, input_of};
+ghost use Rattle.words.specs.declared.options.SourceName.TheVariants.{File};
+ghost use Rattle.words.specs.Limits.{IsLawfulSource};
+ghost use Rattle.ipa_driver.specs.Answers.{Refused};
+ghost use Rattle.ipa_driver.specs.Source.{input_name};
 ghost use Rattle.ipa_driver.specs.Work.{Loads, LoadsText, FetchRefused, Judges, IsLoaded};
 
 use crate::finish::Fault;
 use gimple_core::{Checked, Mode, Text};
+use gimple_gen::generate;
 use gimple_text::{TextFault, parse};
 use gimple_types::{Refusal, accept};
 use shelf::{Fetched, Shelf};
 use std::alloc::Global;
-use words::{SourceName, name_bytes};
+use words::{Name, SourceName, name_bytes};
 
 /// The most bytes that a source may have.
 const LIMIT: u64 = 16_777_216;
 
-/// The input's name.
-pub fn input_bytes<'a>(words: &'a [Text], source: &SourceName) -> &'a [u8]
-    ensures { result.now ≡ bytes_of words.now (input_of source.now) }
+/// The input's name; none of a generated program.
+pub fn input_name<'a>(words: &'a [Text], source: &SourceName) -> &'a [u8]
+    ensures { result.now ≡ input_name words.now source.now }
 {
-    let SourceName::File(name) = source;
-    name_bytes(words, name)
+    match source {
+        SourceName::File(name) => name_bytes(words, name),
+        SourceName::Generate(_) => b"",
+    }
 }
 
 /// The text of the source of this name.
@@ -56,6 +61,23 @@ fn judge(alloc: Global, text: &[u8], mode: Mode) -> Result<Checked, Fault>
     }
 }
 
+/// The accepted program of the file of this name, in this mode.
+fn load_file<S: Shelf>(
+    alloc: Global,
+    words: &[Text],
+    name: &Name,
+    mode: Mode,
+    shelf: &mut S,
+) -> Result<Checked, Fault>
+    ensures loads { Loads (S.meaning shelf.old) (S.meaning shelf.new) }
+    ensures answer { MatchResult result
+        (IsLoaded words.now (File name.now) mode (S.meaning shelf.old) (S.meaning shelf.new))
+        (Refused words.now (File name.now) (S.meaning shelf.old) (S.meaning shelf.new)) }
+{
+    let text = fetch_text(alloc, name_bytes(words, name), shelf)?;
+    judge(alloc, text.as_slice(), mode)
+}
+
 /// The accepted program of the source that the words name, in this mode.
 pub fn load<S: Shelf>(
     alloc: Global,
@@ -64,11 +86,17 @@ pub fn load<S: Shelf>(
     mode: Mode,
     shelf: &mut S,
 ) -> Result<Checked, Fault>
+    requires { IsLawfulSource source.now }
     ensures loads { Loads (S.meaning shelf.old) (S.meaning shelf.new) }
     ensures answer { MatchResult result
         (IsLoaded words.now source.now mode (S.meaning shelf.old) (S.meaning shelf.new))
         (Refused words.now source.now (S.meaning shelf.old) (S.meaning shelf.new)) }
 {
-    let text = fetch_text(alloc, input_bytes(words, source), shelf)?;
-    judge(alloc, text.as_slice(), mode)
+    match source {
+        SourceName::File(name) => load_file(alloc, words, name, mode, shelf),
+        SourceName::Generate(functions) => match generate(alloc, *functions) {
+            Ok(program) => Ok(Checked::seal_as(program, mode)),
+            Err(_) => Err(Fault::Memory),
+        },
+    }
 }

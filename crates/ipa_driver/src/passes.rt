@@ -7,6 +7,7 @@ ghost use Rattle.ipa_driver.specs.Pipeline.{AreLegs, IsMade};
 ghost use Rattle.ipa_driver.specs.Summary.{all_counts};
 
 use crate::graph::graph_text;
+use crate::icf::icf_leg;
 use crate::legs::{Leg, idle};
 use crate::summary::{Counts, all_counts, asked_summary, measure_of};
 use call_graph::drop_unreached;
@@ -84,9 +85,10 @@ fn legs_of(
     asked: &Asked,
     passes: &Passes,
 ) -> Result<Legs, OutOfMemory>
+    requires { IsCountable program.program }
     ensures { IfOk result (λ legs. AreLegs program asked.now passes.now legs) }
 {
-    let icf = idle(alloc, "icf", program, asked.icf)?;
+    let icf = icf_leg(alloc, passes.icf, program, asked.icf)?;
     let cp = idle(alloc, "cp", icf.program, asked.cp)?;
     let sra = idle(alloc, "sra", cp.program, asked.sra)?;
     let modref = idle(alloc, "modref", sra.program, asked.modref)?;

@@ -1,6 +1,7 @@
 //! The top call.
 
 ghost use Rattle.std.specs.Prelude.{MatchResult, Some};
+ghost use Rattle.words.specs.Limits.{IsLawfulSource};
 ghost use Rattle.words.specs.Words.{options_of};
 ghost use Rattle.ipa_driver.specs.declared.tool.Tool.TheVariants.{Optimiser};
 ghost use Rattle.ipa_driver.specs.Stores.{AreOutputs};
@@ -8,7 +9,7 @@ ghost use Rattle.ipa_driver.specs.Answers.{Answer, IsDone, TopAnswers};
 ghost use Rattle.ipa_driver.specs.Work.{WorkKeeps, WorkSure};
 
 use crate::finish::{Fault, Finish};
-use crate::load::{input_bytes, load};
+use crate::load::{input_name, load};
 use crate::outputs::{outputs_of, store_all};
 use crate::tell::tell;
 use crate::tool::Tool;
@@ -29,7 +30,7 @@ pub fn optimise_alone<S: Shelf>(alloc: Global, words: &[Text], shelf: &mut S) ->
                 fault: None,
             },
             Err(fault) => {
-                let input = input_bytes(words, &options.source);
+                let input = input_name(words, &options.source);
                 tell(alloc, Tool::Optimiser, input, words, fault, shelf)
             }
         },
@@ -51,6 +52,7 @@ fn work<S: Shelf>(
     options: &Options,
     shelf: &mut S,
 ) -> Result<(), Fault>
+    requires { IsLawfulSource options.now.source }
     ensures keeps { WorkKeeps (S.meaning shelf.old) (S.meaning shelf.new) }
     ensures answer { MatchResult result
         (λ _. IsDone words.now options.now.source (AreOutputs options.now) (S.meaning shelf.old) (S.meaning shelf.new))

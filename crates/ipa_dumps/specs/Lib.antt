@@ -1,3 +1,7 @@
 pub mod IndirectCalls
 pub mod Dumps
 pub mod Sample
+pub mod Classes
+pub mod Groups
+pub mod ValueTexts
+pub mod CpTexts

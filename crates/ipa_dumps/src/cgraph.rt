@@ -29,7 +29,8 @@ pub trait GraphView {
         ensures { result.now ≡ (graph self.now).edges };
 }
 
-fn push_members(text: &mut Text, program: &Program, members: &[u32]) -> Result<(), OutOfMemory>
+/// Puts the names of functions behind a text, each after a blank.
+pub fn push_members(text: &mut Text, program: &Program, members: &[u32]) -> Result<(), OutOfMemory>
     ensures { OnOk result (text.new ≡ text.old ++ flat_map (member_text program.now) members.now) }
 {
     for member in members {

@@ -3,10 +3,16 @@
 #![tactic(auto)]
 
 mod cgraph;
+mod classes;
+mod cp;
 mod indirect;
 mod place;
 #[cfg(test)]
 mod tests;
+mod value;
 
 pub use cgraph::{GraphView, dump_cgraph};
+pub use classes::{ClassView, dump_icf};
+pub use cp::{CpView, dump_cp};
 pub use place::{header, place_text};
+pub use value::value_text;

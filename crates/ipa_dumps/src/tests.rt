@@ -5,13 +5,14 @@ ghost use Rattle.gimple_ir.specs.declared.operand.Operand.TheVariants.{Address};
 ghost use Rattle.gimple_ir.specs.declared.statement.Stmt.TheVariants.{Call, Copy, Indirect};
 ghost use Rattle.ipa_dumps.specs.Sample.{f_name, p_name, f_function, main_body, main_function, sample};
 
-use crate::{GraphView, dump_cgraph, header, place_text};
+use crate::{CpView, GraphView, dump_cgraph, dump_cp, header, place_text, value_text};
 use gimple_core::{
-    Block, Blocks, Checked, Edge, Edges, End, Function, Listed, Numbers, Operand, OutOfMemory,
-    Point, Program, Register, Scalar, Signature, Stmt, Stmts, Text,
+    Block, Blocks, Checked, Constant, Edge, Edges, End, Function, Listed, Numbers, Operand,
+    OutOfMemory, Point, Program, Register, Scalar, Signature, Stmt, Stmts, Text,
 };
 use std::alloc::Global as Heap;
 use std::test::Fail;
+use value_domain::{AbsVal, Bits, Range, Vals};
 
 /// A call of `f`, which gives nothing.
 fn direct_call(alloc: Heap) -> Result<Stmt, OutOfMemory>
@@ -211,5 +212,103 @@ fn headers_and_places(rt: HostRuntime) -> Result<(), Fail> {
             place.as_bytes()
         );
     }
+    Ok(())
+}
+
+/// A value with these constants, known bits and interval.
+fn value(
+    alloc: Heap,
+    constants: &[Constant],
+    mask: u64,
+    bits: u64,
+    range: Range,
+) -> Result<AbsVal, OutOfMemory> {
+    let constants = Listed::from_vec(Vec::from_slice(alloc, constants)?);
+    Ok(AbsVal {
+        vals: Vals::Among {
+            limit: 8,
+            constants,
+        },
+        bits: Bits { mask, value: bits },
+        range,
+    })
+}
+
+/// Rows without values, since no function of the small program has a formal.
+#[derive(Drop)]
+struct NoFormals {
+    none: AbsVal,
+}
+
+impl CpView for NoFormals {
+    ghost rows = { λ v. [] ∷ [] ∷ [] };
+
+    fn formal(&self, _function: u32, _formal: u32) -> &AbsVal {
+        &self.none
+    }
+}
+
+/// No constants, no known bits, and an interval.
+fn bare(vals: Vals, low: i128, high: i128) -> AbsVal {
+    AbsVal {
+        vals,
+        bits: Bits { mask: 0, value: 0 },
+        range: Range { low, high },
+    }
+}
+
+#[test]
+fn values_and_formals(rt: HostRuntime) -> Result<(), Fail> {
+    let alloc = rt.alloc();
+    let program = small(alloc)?;
+    let three = value(
+        alloc,
+        &[Constant::Int(3)],
+        0xffff_ffff,
+        3,
+        Range { low: 3, high: 3 },
+    )?;
+    let two = value(
+        alloc,
+        &[Constant::Int(-1), Constant::Int(7)],
+        u64::MAX - 8,
+        7,
+        Range { low: -1, high: 7 },
+    )?;
+    let null = value(alloc, &[Constant::Null], 0, 0, Range { low: 0, high: 0 })?;
+    for (scalar, value, text) in [
+        (
+            Scalar::I32,
+            &three,
+            "values {3}; bits 0xffffffff=0x3; range [3, 3]",
+        ),
+        (
+            Scalar::I8,
+            &two,
+            "values {-1, 7}; bits 0xf7=0x7; range [-1, 7]",
+        ),
+        (Scalar::Ptr, &null, "values {null}"),
+        (Scalar::Ptr, &bare(Vals::Any, 0, 0), "values any"),
+        (
+            Scalar::U8,
+            &bare(Vals::Any, 0, 255),
+            "values any; bits 0x0=0x0; range [0, 255]",
+        ),
+        (
+            Scalar::I16,
+            &bare(Vals::Nothing, 1, 0),
+            "values none; bits none; range none",
+        ),
+    ] {
+        let found = value_text(alloc, program.program(), scalar, value)?;
+        assert_eq!(rt; found.as_slice(), text.as_bytes());
+    }
+    let none = NoFormals {
+        none: bare(Vals::Nothing, 1, 0),
+    };
+    assert_eq!(rt;
+        dump_cp(alloc, &program, &none)?.as_slice(),
+        ";; pass cp\n".as_bytes()
+    );
     Ok(())
 }

@@ -5,11 +5,12 @@ use Rattle.std.proofs.lemmas.Bool.Decides.{nat_tests}
 use Rattle.words.specs.declared.item.Param.{Param}
 use Rattle.words.specs.declared.item.Param.TheVariants.{ValueListSize, EvalThreshold, UnitGrowth, LargeUnitInsns, MaxAggItems, MaxReplacements, PtrGrowthFactor, SraUnitGrowth, MaxBases, MaxRefs, MaxAccesses}
 use Rattle.words.specs.declared.item.Item.{Item}
-use Rattle.words.specs.declared.item.Item.TheVariants.{Set, Workers}
+use Rattle.words.specs.declared.item.Item.TheVariants.{Source, Set, Workers}
 use Rattle.words.specs.Items.{least_of, greatest_of}
-use Rattle.words.specs.Sequence.{last_of, set_in, workers_in, param_number}
+use Rattle.words.specs.declared.options.SourceName.{SourceName}
+use Rattle.words.specs.Sequence.{last_of, set_in, source_in, workers_in, param_number}
 use Rattle.words.specs.Gathered.{gathered_of, param_in, params_of}
-use Rattle.words.specs.Limits.{IsBetween, AreWithin, HaveLimits, KeepsLimits}
+use Rattle.words.specs.Limits.{IsBetween, IsLawfulSource, AreWithin, HaveLimits, KeepsLimits}
 
 abbrev pub AllKeep : List Item → Type 0
 AllKeep [] = Unit {0}
@@ -19,7 +20,7 @@ pub all_more : (is : List Item) (i : Item) → AllKeep is → KeepsLimits i → 
 all_more [] i h k = (k, tt)
 all_more (x ∷ is) i h k = (h.0, all_more is i h.1 k)
 
-either : (P : ℕ → Type 0) (x y : Option ℕ) → IfSome x P → IfSome y P → IfSome (option_or x y) P
+either : {A : Type 0} (P : A → Type 0) (x y : Option A) → IfSome x P → IfSome y P → IfSome (option_or x y) P
 either P None y h k = k
 either P (Some a) y h k = h
 
@@ -78,6 +79,14 @@ last_workers_fit : (is : List Item) → AllKeep is → IfSome (last_of workers_i
 last_workers_fit [] h = tt
 last_workers_fit (i ∷ is) h = either (IsBetween 1 64) (last_of workers_in is) (workers_in i) (last_workers_fit is h.1) (workers_fit i h.0)
 
+source_fits : (i : Item) → KeepsLimits i → IfSome (source_in i) IsLawfulSource
+source_fits (Source source) h = h
+source_fits i h = tt
+
+last_source_fits : (is : List Item) → AllKeep is → IfSome (last_of source_in is) IsLawfulSource
+last_source_fits [] h = tt
+last_source_fits (i ∷ is) h = either IsLawfulSource (last_of source_in is) (source_in i) (last_source_fits is h.1) (source_fits i h.0)
+
 params_within : (is : List Item) → AllKeep is → AreWithin (params_of is)
 params_within is h = record {
   ipa_cp_value_list_size = param_fits ValueListSize 8 is h (omega arith, omega arith);
@@ -95,6 +104,7 @@ params_within is h = record {
 
 pub limits_of : (is : List Item) → AllKeep is → HaveLimits (gathered_of is)
 limits_of is h = record {
+  source = last_source_fits is h;
   params = params_within is h;
   workers = or_default (IsBetween 1 64) (last_of workers_in is) 1 (last_workers_fit is h) (omega arith, omega arith);
 }

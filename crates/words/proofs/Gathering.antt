@@ -9,7 +9,7 @@ use Rattle.words.specs.declared.item.Pass.TheVariants.{Cp, CpClone, BitCp, Vrp, 
 use Rattle.words.specs.declared.item.Param.TheVariants.{ValueListSize, EvalThreshold, UnitGrowth, LargeUnitInsns, MaxAggItems, MaxReplacements, PtrGrowthFactor, SraUnitGrowth, MaxBases, MaxRefs, MaxAccesses}
 use Rattle.words.specs.declared.item.Dump.TheVariants.{Cgraph, Icf as DumpIcf, Cp as DumpCp, Sra as DumpSra, Modref as DumpModref}
 use Rattle.words.specs.declared.item.Item.{Item}
-use Rattle.words.specs.declared.item.Item.TheVariants.{Input, Level, Turn, Set, Dump as DumpItem, OutputOption, Output, ParamOption, Summary, Workers, Mode as ModeItem}
+use Rattle.words.specs.declared.item.Item.TheVariants.{Source, Level, Turn, Set, Dump as DumpItem, OutputOption, Output, ParamOption, Summary, Workers, Mode as ModeItem}
 use Rattle.words.specs.declared.gathered.Gathered.{Gathered}
 use Rattle.words.specs.declared.options.UsageFault.{UsageFault}
 use Rattle.words.specs.Gathered.{gather, gathered_of, repeats_in, map_gathered}
@@ -27,7 +27,7 @@ last_of-push pick [] i = none (pick i)
 last_of-push pick (x ∷ is) i = rw (last_of-push pick is i) (or-or (pick i) (last_of pick is) (pick x))
 
 pub gathered_of-push : (is : List Item) (i : Item) → gathered_of (is ++ i ∷ []) ≡ gather (gathered_of is) i
-gathered_of-push is (Input name) = simp last_of-push
+gathered_of-push is (Source source) = simp last_of-push
 gathered_of-push is (Level n) = simp last_of-push
 gathered_of-push is (Turn Cp on) = simp last_of-push
 gathered_of-push is (Turn CpClone on) = simp last_of-push
@@ -60,7 +60,7 @@ gathered_of-push is (Workers n) = simp last_of-push
 gathered_of-push is (ModeItem mode) = simp last_of-push
 
 pub repeats-gathered_of : (is : List Item) (i : Item) → repeats_in (gathered_of is) i ≡ repeats is i
-repeats-gathered_of is (Input name) = refl
+repeats-gathered_of is (Source source) = refl
 repeats-gathered_of is OutputOption = refl
 repeats-gathered_of is i = refl
 

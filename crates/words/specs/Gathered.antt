@@ -6,7 +6,6 @@ use Rattle.gimple_ir.specs.declared.scalar.Mode.TheVariants.{Trap}
 use Rattle.words.specs.declared.options.Name.{Name}
 use Rattle.words.specs.declared.options.Name.TheVariants.{Standard}
 use Rattle.words.specs.declared.options.SourceName.{SourceName}
-use Rattle.words.specs.declared.options.SourceName.TheVariants.{File}
 use Rattle.words.specs.declared.options.Options.{Options}
 use Rattle.words.specs.declared.options.UsageFault.{UsageFault}
 use Rattle.words.specs.declared.item.Pass.{Pass}
@@ -16,7 +15,7 @@ use Rattle.words.specs.declared.item.Param.TheVariants.{ValueListSize, EvalThres
 use Rattle.words.specs.declared.item.Dump.{Dump}
 use Rattle.words.specs.declared.item.Dump.TheVariants.{Cgraph, Icf as DumpIcf, Cp as DumpCp, Sra as DumpSra, Modref as DumpModref}
 use Rattle.words.specs.declared.item.Item.{Item}
-use Rattle.words.specs.declared.item.Item.TheVariants.{Input, Level, Turn, Set, Dump as DumpItem, OutputOption, Output, ParamOption, Summary, Workers, Mode as ModeItem}
+use Rattle.words.specs.declared.item.Item.TheVariants.{Source, Level, Turn, Set, Dump as DumpItem, OutputOption, Output, ParamOption, Summary, Workers, Mode as ModeItem}
 use Rattle.words.specs.declared.item.Pending.TheVariants.{Nothing}
 use Rattle.words.specs.declared.gathered.Turns.{Turns}
 use Rattle.words.specs.declared.gathered.Dumps.{Dumps}
@@ -146,7 +145,7 @@ dumped t DumpSra x = record t { sra = Some x }
 dumped t DumpModref x = record t { modref = Some x }
 
 abbrev pub gather : Gathered → Item → Gathered
-gather g (Input name) = record g { source = Some (File name) }
+gather g (Source source) = record g { source = Some source }
 gather g (Level n) = record g { level = n }
 gather g (Turn p on) = record g { turns = turned g.turns p on }
 gather g (Set q v) = record g { params = set g.params q v }
@@ -159,6 +158,6 @@ gather g (Workers n) = record g { workers = n }
 gather g (ModeItem mode) = record g { mode = mode }
 
 abbrev pub repeats_in : Gathered → Item → Bool
-repeats_in g (Input name) = is_some g.source
+repeats_in g (Source source) = is_some g.source
 repeats_in g OutputOption = g.asks_output
 repeats_in g i = false

@@ -1,10 +1,11 @@
 -- What one word says.
-use Rattle.std.specs.Prelude.{ℕ, ◌+◌, List, length, drop, Bool, true, false, ◌||◌, not, ◌==◌, codes, slice_index, if◌then◌else◌, Option, None, Some, Result, Ok, Err}
+use Rattle.std.specs.Prelude.{ℕ, ◌+◌, List, [], ◌∷◌, length, drop, Bool, true, false, ◌||◌, not, ◌==◌, codes, slice_index, if◌then◌else◌, Option, None, Some, Result, Ok, Err}
 use Rattle.std.specs.List.{list_any}
 use Rattle.gimple_ir.specs.declared.scalar.Mode.{Mode}
 use Rattle.gimple_ir.specs.declared.scalar.Mode.TheVariants.{Trap, Wrap}
 use Rattle.words.specs.declared.options.Name.{Name}
 use Rattle.words.specs.declared.options.Name.TheVariants.{Word}
+use Rattle.words.specs.declared.options.SourceName.TheVariants.{File, Generate}
 use Rattle.words.specs.declared.item.Pass.{Pass}
 use Rattle.words.specs.declared.item.Pass.TheVariants.{Cp, CpClone, BitCp, Vrp, Sra, Modref, Icf}
 use Rattle.words.specs.declared.item.Param.{Param}
@@ -12,45 +13,48 @@ use Rattle.words.specs.declared.item.Param.TheVariants.{ValueListSize, EvalThres
 use Rattle.words.specs.declared.item.Dump.{Dump}
 use Rattle.words.specs.declared.item.Dump.TheVariants.{Cgraph, Icf as DumpIcf, Cp as DumpCp, Sra as DumpSra, Modref as DumpModref}
 use Rattle.words.specs.declared.item.Item.{Item}
-use Rattle.words.specs.declared.item.Item.TheVariants.{Input, Level, Turn, Set, Dump as DumpItem, OutputOption, Output, ParamOption, Summary, Workers, Mode as ModeItem}
+use Rattle.words.specs.declared.item.Item.TheVariants.{Source, Level, Turn, Set, Dump as DumpItem, OutputOption, Output, ParamOption, Summary, Workers, Mode as ModeItem}
 use Rattle.words.specs.declared.item.Pending.{Pending}
 use Rattle.words.specs.declared.item.Pending.TheVariants.{Nothing, Output as OutputPending, Param as ParamPending}
 use Rattle.words.specs.Numbers.{limited}
-use Rattle.words.specs.Prefix.{begins, is_word}
+use Rattle.words.specs.Prefix.{begins, is_word, row_named, row_begun}
 
 -- names
 
-unfoldable pub pass_of : List ℕ → Option Pass
-pass_of name =
-    if is_word name (codes "cp") then Some Cp
-    else (if is_word name (codes "cp-clone") then Some CpClone
-    else (if is_word name (codes "bit-cp") then Some BitCp
-    else (if is_word name (codes "vrp") then Some Vrp
-    else (if is_word name (codes "sra") then Some Sra
-    else (if is_word name (codes "modref") then Some Modref
-    else (if is_word name (codes "icf") then Some Icf
-    else None))))))
+-- the table of passes
+abbrev pub pass_rows : List (List ℕ × Pass)
+pass_rows =
+    (codes "cp", Cp)
+    ∷ (codes "cp-clone", CpClone)
+    ∷ (codes "bit-cp", BitCp)
+    ∷ (codes "vrp", Vrp)
+    ∷ (codes "sra", Sra)
+    ∷ (codes "modref", Modref)
+    ∷ (codes "icf", Icf)
+    ∷ []
 
--- the later parameters
-unfoldable pub late_param_at : List ℕ → Option (Param × ℕ)
-late_param_at text =
-    if begins text (codes "ipa-sra-ptr-growth-factor=") then Some (PtrGrowthFactor, 26)
-    else (if begins text (codes "ipa-sra-unit-growth=") then Some (SraUnitGrowth, 20)
-    else (if begins text (codes "modref-max-bases=") then Some (MaxBases, 17)
-    else (if begins text (codes "modref-max-refs=") then Some (MaxRefs, 16)
-    else (if begins text (codes "modref-max-accesses=") then Some (MaxAccesses, 20)
-    else None))))
+abbrev pub pass_of : List ℕ → Option Pass
+pass_of name = row_named pass_rows name
+
+-- the table of parameters
+abbrev pub param_rows : List (List ℕ × Param)
+param_rows =
+    (codes "ipa-cp-value-list-size=", ValueListSize)
+    ∷ (codes "ipa-cp-eval-threshold=", EvalThreshold)
+    ∷ (codes "ipa-cp-unit-growth=", UnitGrowth)
+    ∷ (codes "ipa-cp-large-unit-insns=", LargeUnitInsns)
+    ∷ (codes "ipa-max-agg-items=", MaxAggItems)
+    ∷ (codes "ipa-sra-max-replacements=", MaxReplacements)
+    ∷ (codes "ipa-sra-ptr-growth-factor=", PtrGrowthFactor)
+    ∷ (codes "ipa-sra-unit-growth=", SraUnitGrowth)
+    ∷ (codes "modref-max-bases=", MaxBases)
+    ∷ (codes "modref-max-refs=", MaxRefs)
+    ∷ (codes "modref-max-accesses=", MaxAccesses)
+    ∷ []
 
 -- the parameter of a text NAME=V, and where its value begins
-unfoldable pub param_at : List ℕ → Option (Param × ℕ)
-param_at text =
-    if begins text (codes "ipa-cp-value-list-size=") then Some (ValueListSize, 23)
-    else (if begins text (codes "ipa-cp-eval-threshold=") then Some (EvalThreshold, 22)
-    else (if begins text (codes "ipa-cp-unit-growth=") then Some (UnitGrowth, 19)
-    else (if begins text (codes "ipa-cp-large-unit-insns=") then Some (LargeUnitInsns, 24)
-    else (if begins text (codes "ipa-max-agg-items=") then Some (MaxAggItems, 18)
-    else (if begins text (codes "ipa-sra-max-replacements=") then Some (MaxReplacements, 25)
-    else late_param_at text)))))
+abbrev pub param_at : List ℕ → Option (Param × ℕ)
+param_at text = row_begun param_rows text
 
 abbrev pub least_of : Param → ℕ
 least_of ValueListSize = 1
@@ -65,29 +69,33 @@ greatest_of MaxRefs = 1000
 greatest_of MaxAccesses = 1000
 greatest_of p = 64
 
+-- the table of dumps
+abbrev pub dump_rows : List (List ℕ × Dump)
+dump_rows =
+    (codes "cgraph=", Cgraph)
+    ∷ (codes "icf=", DumpIcf)
+    ∷ (codes "cp=", DumpCp)
+    ∷ (codes "sra=", DumpSra)
+    ∷ (codes "modref=", DumpModref)
+    ∷ []
+
 -- the pass of a text PASS=FILE, and where its file begins
-unfoldable pub dump_at : List ℕ → Option (Dump × ℕ)
-dump_at text =
-    if begins text (codes "cgraph=") then Some (Cgraph, 7)
-    else (if begins text (codes "icf=") then Some (DumpIcf, 4)
-    else (if begins text (codes "cp=") then Some (DumpCp, 3)
-    else (if begins text (codes "sra=") then Some (DumpSra, 4)
-    else (if begins text (codes "modref=") then Some (DumpModref, 7)
-    else None))))
+abbrev pub dump_at : List ℕ → Option (Dump × ℕ)
+dump_at text = row_begun dump_rows text
 
-unfoldable pub level_at : List ℕ → Option ℕ
-level_at text =
-    if is_word text (codes "-O0") then Some 0
-    else (if is_word text (codes "-O1") || is_word text (codes "-O") then Some 1
-    else (if is_word text (codes "-O2") then Some 2
-    else (if is_word text (codes "-O3") then Some 3
-    else None)))
+-- the table of levels
+abbrev pub level_rows : List (List ℕ × ℕ)
+level_rows = (codes "-O0", 0) ∷ (codes "-O1", 1) ∷ (codes "-O", 1) ∷ (codes "-O2", 2) ∷ (codes "-O3", 3) ∷ []
 
-unfoldable pub mode_at : List ℕ → Option Mode
-mode_at text =
-    if is_word text (codes "-fwrapv") then Some Wrap
-    else (if is_word text (codes "-ftrapv") then Some Trap
-    else None)
+abbrev pub level_at : List ℕ → Option ℕ
+level_at text = row_named level_rows text
+
+-- the table of modes
+abbrev pub mode_rows : List (List ℕ × Mode)
+mode_rows = (codes "-fwrapv", Wrap) ∷ (codes "-ftrapv", Trap) ∷ []
+
+abbrev pub mode_at : List ℕ → Option Mode
+mode_at text = row_named mode_rows text
 
 -- words, or the codes of their faults
 
@@ -127,12 +135,16 @@ summary_of word text = map_item (file_of word text 10) (λ name. Summary name)
 unfoldable pub workers_of : List ℕ → Result Item ℕ
 workers_of text = or_fault (limited 1 64 text) (λ n. Workers n) 3
 
+unfoldable pub generate_of : List ℕ → Result Item ℕ
+generate_of text = or_fault (limited 1 65536 text) (λ n. Source (Generate n)) 3
+
 unfoldable pub valued_of : ℕ → List ℕ → Result Item ℕ
 valued_of word text =
     if begins text (codes "--param=") then param_of (drop 8 text)
     else (if begins text (codes "--summary=") then summary_of word text
     else (if begins text (codes "--workers=") then workers_of (drop 10 text)
-    else Err 2))
+    else (if begins text (codes "--generate=") then generate_of (drop 11 text)
+    else Err 2)))
 
 unfoldable pub long_of : ℕ → List ℕ → Result Item ℕ
 long_of word text =
@@ -153,7 +165,7 @@ level_or_later word text None = mode_or_long word text (mode_at text)
 unfoldable pub single_of : ℕ → List ℕ → Bool → Result Item ℕ
 single_of word text is_last =
     if length text == 0 then Err 3
-    else (if not (slice_index text 0 == 45) || (length text == 1) then Ok (Input (Word word 0))
+    else (if not (slice_index text 0 == 45) || (length text == 1) then Ok (Source (File (Word word 0)))
     else (if is_word text (codes "-o") then (if is_last then Err 7 else Ok OutputOption)
     else (if is_word text (codes "--param") then (if is_last then Err 7 else Ok ParamOption)
     else level_or_later word text (level_at text))))

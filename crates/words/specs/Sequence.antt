@@ -4,7 +4,6 @@ use Rattle.std.specs.Option.{option_or}
 use Rattle.gimple_ir.specs.declared.scalar.Mode.{Mode}
 use Rattle.words.specs.declared.options.Name.{Name}
 use Rattle.words.specs.declared.options.SourceName.{SourceName}
-use Rattle.words.specs.declared.options.SourceName.TheVariants.{File}
 use Rattle.words.specs.declared.options.UsageFault.{UsageFault}
 use Rattle.words.specs.declared.item.Pass.{Pass}
 use Rattle.words.specs.declared.item.Pass.TheVariants.{Cp, CpClone, BitCp, Vrp, Sra, Modref, Icf}
@@ -13,7 +12,7 @@ use Rattle.words.specs.declared.item.Param.TheVariants.{ValueListSize, EvalThres
 use Rattle.words.specs.declared.item.Dump.{Dump}
 use Rattle.words.specs.declared.item.Dump.TheVariants.{Cgraph, Icf as DumpIcf, Cp as DumpCp, Sra as DumpSra, Modref as DumpModref}
 use Rattle.words.specs.declared.item.Item.{Item}
-use Rattle.words.specs.declared.item.Item.TheVariants.{Input, Level, Turn, Set, Dump as DumpItem, OutputOption, Output, ParamOption, Summary, Workers, Mode as ModeItem}
+use Rattle.words.specs.declared.item.Item.TheVariants.{Source, Level, Turn, Set, Dump as DumpItem, OutputOption, Output, ParamOption, Summary, Workers, Mode as ModeItem}
 use Rattle.words.specs.declared.item.Pending.{Pending}
 use Rattle.words.specs.declared.item.Pending.TheVariants.{Nothing, Output as OutputPending, Param as ParamPending}
 use Rattle.words.specs.Items.{item_of}
@@ -26,7 +25,7 @@ last_of pick (i ∷ is) = option_or (last_of pick is) (pick i)
 -- what a word says of each kind
 
 abbrev pub source_in : Item → Option SourceName
-source_in (Input name) = Some (File name)
+source_in (Source source) = Some source
 source_in i = None
 
 abbrev pub asks_in : Item → Option Bool
@@ -98,7 +97,7 @@ dump_in p i = None
 
 -- a second input or output
 abbrev pub repeats : List Item → Item → Bool
-repeats seen (Input name) = is_some (last_of source_in seen)
+repeats seen (Source source) = is_some (last_of source_in seen)
 repeats seen OutputOption = is_some (last_of asks_in seen)
 repeats seen i = false
 

@@ -151,7 +151,7 @@ impl Gathered {
         ensures { result ≡ repeats_in self.now item }
     {
         match item {
-            Item::Input(_) => self.source.is_some(),
+            Item::Source(_) => self.source.is_some(),
             Item::OutputOption => self.asks_output,
             _ => false,
         }
@@ -163,7 +163,7 @@ impl Gathered {
     {
         let mut new = self;
         match item {
-            Item::Input(name) => new.source = Some(SourceName::File(name)),
+            Item::Source(source) => new.source = Some(source),
             Item::Level(level) => new.level = level,
             Item::Turn(pass, on) => new.turns = with_turn(self.turns, pass, on),
             Item::Set(param, value) => new.params = with_param(self.params, param, value),

@@ -4,7 +4,7 @@ ghost use Rattle.std.specs.Prelude.{◌≡◌, ◌≤◌};
 ghost use Rattle.words.specs.Items.{least_of, greatest_of};
 ghost use Rattle.words.specs.Sequence.{pending_of};
 
-use crate::options::Name;
+use crate::options::{Name, SourceName};
 use gimple_ir::Mode;
 
 /// The passes that words turn on and off.
@@ -48,7 +48,7 @@ pub enum Dump {
 /// What a word says.
 #[derive(Clone, Copy, Debug, PartialEq, Eq)]
 pub enum Item {
-    Input(Name),
+    Source(SourceName),
     Level(u8),
     Turn(Pass, bool),
     Set(Param, u64),

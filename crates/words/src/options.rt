@@ -16,6 +16,8 @@ pub enum Name {
 #[derive(Clone, Copy, Debug, PartialEq, Eq)]
 pub enum SourceName {
     File(Name),
+    /// A program of so many functions and `main`, which is made by rule.
+    Generate(u32),
 }
 
 /// What is read, what is stored where, which passes run, and what arithmetic does.

@@ -2,13 +2,13 @@
 
 ghost use Rattle.std.specs.Prelude.{◌≡◌, ◌==◌, ◌≤◌, length, IfOk};
 ghost use Rattle.std.specs.List.{list_any};
-ghost use Rattle.words.specs.Items.{param_of, file_of, turn_of, dump_of, summary_of, workers_of, long_of, valued_of, single_of, item_of};
+ghost use Rattle.words.specs.Items.{param_of, file_of, turn_of, dump_of, summary_of, workers_of, generate_of, long_of, valued_of, single_of, item_of};
 ghost use Rattle.words.specs.Limits.{KeepsLimits};
 
 use crate::item::{Item, Pending};
 use crate::keys::{dump_named, level_named, mode_named, param_named, pass_named};
 use crate::numbers::number;
-use crate::options::Name;
+use crate::options::{Name, SourceName};
 use crate::prefix::{after, begins, is_word};
 
 fn has_equals(text: &[u8]) -> bool
@@ -93,6 +93,17 @@ fn workers_item(text: &[u8]) -> Result<Item, u8>
     }
 }
 
+#[tactic(auto, unfolding(crate::specs::Items::generate_of))]
+fn generate_item(text: &[u8]) -> Result<Item, u8>
+    ensures value { result ≡ generate_of text.now }
+    ensures limits { IfOk result KeepsLimits }
+{
+    match number(text, 1, 65536) {
+        Some(functions) => Ok(Item::Source(SourceName::Generate(functions as u32))),
+        None => Err(3),
+    }
+}
+
 /// What an option with a value in its word says.
 #[tactic(auto, unfolding(crate::specs::Items::valued_of))]
 fn valued_item(word: usize, text: &[u8]) -> Result<Item, u8>
@@ -105,6 +116,8 @@ fn valued_item(word: usize, text: &[u8]) -> Result<Item, u8>
         summary_item(word, text)
     } else if begins(text, "--workers=") {
         workers_item(after(text, 10))
+    } else if begins(text, "--generate=") {
+        generate_item(after(text, 11))
     } else {
         Err(2)
     }
@@ -137,7 +150,7 @@ fn single_item(word: usize, text: &[u8], is_last: bool) -> Result<Item, u8>
         return Err(3);
     }
     if text[0] != b'-' || text.len() == 1 {
-        return Ok(Item::Input(Name::Word { word, from: 0 }));
+        return Ok(Item::Source(SourceName::File(Name::Word { word, from: 0 })));
     }
     if is_word(text, "-o") {
         return if is_last {

@@ -1,33 +1,31 @@
-use Rattle.std.proofs.Common.{◌≡◌, ◌<◌, ◌^◌, rules, refl, sym, subst}
+use Rattle.std.proofs.Common.{◌≡◌, ◌<◌, ◌^◌, rules, refl, subst}
 use Rattle.gimple_ir.specs.declared.program.Program.{Program}
 use Rattle.gimple_ir.specs.Size.{size_of_program}
-use Rattle.gimple_ir.specs.Spellable.{IsSpellable}
-use Rattle.gimple_core.specs.Sealed.{Sealed}
 use Rattle.ipa_driver.specs.declared.passes.Product.{Product}
 use Rattle.ipa_driver.specs.Pipeline.{IsPipeline}
-use Rattle.ipa_driver.proofs.MadeLaws.{made, legs_countable, legs_program, still_countable}
+use Rattle.ipa_driver.proofs.MadeLaws.{made, behind_legs, legs_replace, still_countable}
 use Rattle.ipa_driver.proofs.passes.pipeline.Goals as goal
 
 pub graph_text-requires-clause-few : goal.graph_text-requires-clause-few
 graph_text-requires-clause-few c = (still_countable c.args.program c.in_ok-reached.reached c.in_ok-reached.ensures.replaces c.requires).functions
 
+pub legs_of-requires : goal.legs_of-requires
+legs_of-requires c = still_countable c.args.program c.in_ok-reached.reached c.in_ok-reached.ensures.replaces c.requires
+
 pub drop_unreached-requires-2-clause-few : goal.drop_unreached-requires-2-clause-few
 drop_unreached-requires-2-clause-few c =
-    let reached = c.in_ok-reached.reached in
-    let few = still_countable c.args.program reached c.in_ok-reached.ensures.replaces c.requires in
-    (legs_countable reached c.args.asked.now c.args.passes.now c.in_ok-legs.legs c.in_ok-legs.ensures few).functions
+    let reached = c.in_ok-reached in
+    (behind_legs c.args.program reached.reached c.args.asked.now c.args.passes.now c.in_ok-legs.legs reached.ensures.replaces c.in_ok-legs.ensures c.requires).functions
 
 pub drop_unreached-requires-2-clause-size : goal.drop_unreached-requires-2-clause-size
 drop_unreached-requires-2-clause-size c =
-    let reached = c.in_ok-reached.reached in
-    let few = still_countable c.args.program reached c.in_ok-reached.ensures.replaces c.requires in
-    (legs_countable reached c.args.asked.now c.args.passes.now c.in_ok-legs.legs c.in_ok-legs.ensures few).size
+    let reached = c.in_ok-reached in
+    (behind_legs c.args.program reached.reached c.args.asked.now c.args.passes.now c.in_ok-legs.legs reached.ensures.replaces c.in_ok-legs.ensures c.requires).size
 
 pub measure_of-output-requires : goal.measure_of-output-requires
 measure_of-output-requires c =
-    let reached = c.in_ok-reached.reached in
-    let few = still_countable c.args.program reached c.in_ok-reached.ensures.replaces c.requires in
-    let legs = legs_countable reached c.args.asked.now c.args.passes.now c.in_ok-legs.legs c.in_ok-legs.ensures few in
+    let reached = c.in_ok-reached in
+    let legs = behind_legs c.args.program reached.reached c.args.asked.now c.args.passes.now c.in_ok-legs.legs reached.ensures.replaces c.in_ok-legs.ensures c.requires in
     let last = still_countable c.in_ok-legs.legs.program c.in_ok-program.program c.in_ok-program.ensures.replaces legs in
     let same : c.in_ok-program.program.program ≡ c.program-3.result.now = search rules in
     subst (λ (p : Program). size_of_program p < 2 ^ 32) same last.size
@@ -61,5 +59,5 @@ returns-clause-made c =
 pub returns-clause-spellable : goal.returns-clause-spellable
 returns-clause-spellable c =
     let reached = c.in_ok-reached in
-    let legs = legs_program reached.reached c.args.asked.now c.args.passes.now c.in_ok-legs.legs c.in_ok-legs.ensures in
-    λ spellable. c.in_ok-program.ensures.replaces.spellable (subst (λ (s : Sealed). IsSpellable s.program) (sym legs) (reached.ensures.replaces.spellable spellable))
+    let legs = legs_replace reached.reached c.args.asked.now c.args.passes.now c.in_ok-legs.legs reached.ensures.replaces.accepted c.in_ok-legs.ensures in
+    λ spellable. c.in_ok-program.ensures.replaces.spellable (legs.spellable (reached.ensures.replaces.spellable spellable))

@@ -28,7 +28,7 @@ returns-in-Err-work g c =
     let o = c.in-Ok.options in
     let fault = c.in-Err-work.fault in
     let lawful : options_of words ≡ Ok o = search rules in
-    let told = subst (λ input. MessageTold Optimiser input words fault mid new) c.input_bytes-input.ensures c.tell.ensures.told in
+    let told = subst (λ input. MessageTold Optimiser input words fault mid new) c.input_name-input.ensures c.tell.ensures.told in
     let ends = top_failed Optimiser words (options_of words) (λ (o : Options). o.source) AreOutputs old mid new o fault lawful c.in-Err-work.ensures.keeps c.in-Err-work.ensures.answer c.in-Err-work.ensures.sure told in
     subst (λ (f : Finish). TopAnswers Optimiser words (options_of words) (λ (o : Options). o.source) AreOutputs old new f) (sym c.tell.ensures.finish) ends
 
