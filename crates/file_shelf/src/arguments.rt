@@ -5,6 +5,7 @@ ghost use Rattle.std.specs.Prelude.{◌≡◌, ◌⊎◌};
 use shelf::Text;
 use std::alloc::{AllocError, AllocFailed};
 use std::env;
+use std::io::{Error, ErrorKind};
 
 /// Why there are no words.
 #[derive(Debug, Drop)]
@@ -30,10 +31,19 @@ impl<T: Drop> From<AllocFailed<T>> for NoWords {
     }
 }
 
+/// Why the platform gave no words: want of memory has a kind of its own.
+fn no_words(error: &Error) -> NoWords {
+    match error.kind() {
+        ErrorKind::OutOfMemory => NoWords::Memory,
+        _ => NoWords::Unreadable,
+    }
+}
+
 /// The bytes of the program's arguments, without its own name.
 pub fn words(rt: &HostRuntime) -> Result<Vec<Text>, NoWords> {
-    let Ok(arguments) = env::args(rt) else {
-        return Err(NoWords::Unreadable);
+    let arguments = match env::args(rt) {
+        Ok(arguments) => arguments,
+        Err(error) => return Err(no_words(&error)),
     };
     let mut words = Vec::new(rt.alloc());
     for argument in arguments.into_iter().skip(1) {
