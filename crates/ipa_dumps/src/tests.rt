@@ -234,18 +234,28 @@ fn value(
     })
 }
 
-/// Rows without values, since no function of the small program has a formal.
+/// The values of formals, in a row for each function.
 #[derive(Drop)]
-struct NoFormals {
-    none: AbsVal,
+struct FormalRows {
+    rows: Listed<Listed<AbsVal>>,
 }
 
-impl CpView for NoFormals {
-    ghost rows = { λ v. [] ∷ [] ∷ [] };
+impl CpView for FormalRows {
+    ghost rows = { λ v. v.rows };
 
-    fn formal(&self, _function: u32, _formal: u32) -> &AbsVal {
-        &self.none
+    fn formal(&self, function: u32, formal: u32) -> &AbsVal {
+        &self.rows.as_slice()[function as usize].as_slice()[formal as usize]
     }
+}
+
+/// Rows without values, since no function of the small program has a formal.
+fn no_formals(alloc: Heap) -> Result<FormalRows, OutOfMemory>
+    ensures { IfOk result (λ view. view.rows ≡ [] ∷ [] ∷ []) }
+{
+    let mut rows = Listed::new(alloc);
+    rows.push(Listed::new(alloc))?;
+    rows.push(Listed::new(alloc))?;
+    Ok(FormalRows { rows })
 }
 
 /// No constants, no known bits, and an interval.
@@ -303,11 +313,9 @@ fn values_and_formals(rt: HostRuntime) -> Result<(), Fail> {
         let found = value_text(alloc, program.program(), scalar, value)?;
         assert_eq!(rt; found.as_slice(), text.as_bytes());
     }
-    let none = NoFormals {
-        none: bare(Vals::Nothing, 1, 0),
-    };
+    let view = no_formals(alloc)?;
     assert_eq!(rt;
-        dump_cp(alloc, &program, &none)?.as_slice(),
+        dump_cp(alloc, &program, &view)?.as_slice(),
         ";; pass cp\n".as_bytes()
     );
     Ok(())
