@@ -47,7 +47,7 @@ use Rattle.body_symbols.specs.Bodies.{body_of, operand_symbol, formal_symbol, ze
 use Rattle.body_symbols.specs.BodiesLaws.{symbol_steps_laws}
 use Rattle.body_symbols.specs.Claims.{formal_scalar, argument_of, Stands, BeginsWith, arguments_of, OperandsStand, SymbolsClaim, SolvesSymbols, SymbolsHold}
 use Rattle.body_symbols.proofs.Offsets.{wrapped_still}
-use Rattle.body_symbols.proofs.Standing.{Fits, RowStands, row_above, operand_stands}
+use Rattle.body_symbols.proofs.Standing.{is_ptr, zero_inside, Fits, RowStands, row_above, operand_stands}
 use Rattle.body_symbols.proofs.Statements.{statement_done, call_done}
 
 -- ---- the entry
@@ -72,17 +72,6 @@ zero_is_known mode f arguments serial U32 = record { stands = refl; keeps = tt }
 zero_is_known mode f arguments serial U64 = record { stands = refl; keeps = tt }
 zero_is_known mode f arguments serial Ptr = record { stands = refl; keeps = tt }
 
-is_ptr : (scalar : Scalar) → is_pointer scalar ≡ true → scalar ≡ Ptr
-is_ptr I8 e = cc
-is_ptr I16 e = cc
-is_ptr I32 e = cc
-is_ptr I64 e = cc
-is_ptr U8 e = cc
-is_ptr U16 e = cc
-is_ptr U32 e = cc
-is_ptr U64 e = cc
-is_ptr Ptr e = refl
-
 choose : {A : Type 0} (P : A → Type 0) (b : Bool) (x y : A) → b ≡ true → P x → P (cond b x y)
 choose P true x y e h = h
 choose P false x y e h = cc
@@ -98,9 +87,9 @@ module _ (mode : Mode) (f : Function) (arguments : List Value) (serial : ℕ) wh
   abbrev Rows : List Register → List Symbol → List Value → Type 0
   Rows rs row vs = RowStands mode f arguments serial rs row vs
 
-  formal_by : (k : ℕ) (scalar : Scalar) (v : Value) (b : Bool) → is_pointer scalar ≡ b → formal_scalar f k ≡ scalar → v ≡ argument_of f arguments k → is_of scalar v ≡ true → Fits mode f arguments serial scalar (cond b (FormalAt k (Some (pos 0))) (Formal k)) v
-  formal_by k scalar v true e s a t = record { stands = subst (λ u. v ≡ moved_by u (pos 0)) a (still v (subst (λ x. is_of x v ≡ true) (is_ptr scalar e) t)); keeps = tt }
-  formal_by k scalar v false e s a t = record { stands = a; keeps = s }
+  formal_by : (k : ℕ) (scalar : Scalar) (v : Value) (b : Bool) → is_pointer scalar ≡ b → k < length f.params → formal_scalar f k ≡ scalar → v ≡ argument_of f arguments k → is_of scalar v ≡ true → Fits mode f arguments serial scalar (cond b (FormalAt k (Some (pos 0))) (Formal k)) v
+  formal_by k scalar v true e l s a t = record { stands = subst (λ u. v ≡ moved_by u (pos 0)) a (still v (subst (λ x. is_of x v ≡ true) (is_ptr scalar e) t)); keeps = (record { within = l; scalar_is = s }, zero_inside) }
+  formal_by k scalar v false e l s a t = record { stands = a; keeps = record { within = l; scalar_is = s } }
 
   zeros_stand : (rs : List Register) (k j : ℕ) → length f.params ≤ k → Rows rs (first_symbols (length f.params) k rs) (values_made rs [] j)
   unfolding values_made
@@ -120,7 +109,7 @@ module _ (mode : Mode) (f : Function) (arguments : List Value) (serial : ℕ) wh
       let scalar : formal_scalar f k ≡ r.scalar = ap scalar_or_pointer here in
       let value : unwrap_or (slice_get arguments k) (zero_of r.scalar) ≡ argument_of f arguments k = ap (λ x. unwrap_or (slice_get arguments k) (zero_of x)) (sym scalar) in (
         choose (λ a. Fits mode f arguments serial r.scalar a (unwrap_or (slice_get arguments k) (zero_of r.scalar))) (nat_lt k (length f.params)) (formal_symbol k r.scalar) (zero_symbol r.scalar) (lt-ltb k (length f.params) less)
-            (formal_by k r.scalar (unwrap_or (slice_get arguments k) (zero_of r.scalar)) (is_pointer r.scalar) refl scalar value
+            (formal_by k r.scalar (unwrap_or (slice_get arguments k) (zero_of r.scalar)) (is_pointer r.scalar) refl less scalar value
             (and_left (is_of r.scalar (unwrap_or (slice_get arguments k) (zero_of r.scalar))) (registers_typed (rs ++ others) (values_made rs arguments (k + 1) ++ vs)) t)),
         formals_stand rs others (k + 1) vs (omega (arith, l)) (λ j. subst (λ n. slice_get f.params n ≡ slice_get rs j) (omega arith) (at (suc j)))
             (and_right (is_of r.scalar (unwrap_or (slice_get arguments k) (zero_of r.scalar))) (registers_typed (rs ++ others) (values_made rs arguments (k + 1) ++ vs)) t) h,

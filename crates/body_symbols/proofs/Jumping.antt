@@ -44,7 +44,8 @@ use Rattle.body_symbols.proofs.FoundHolding.{There, there_by, row_there, own}
 
 -- ---- arguments
 
-get_typed : (rs : List Register) (vs : List Value) (i : ℕ) → registers_typed rs vs ≡ true → is_of (scalar_or_pointer (slice_get rs i)) (unwrap_or (slice_get vs i) (zero_of (scalar_or_pointer (slice_get rs i)))) ≡ true
+-- an argument is of its formal's scalar
+pub get_typed : (rs : List Register) (vs : List Value) (i : ℕ) → registers_typed rs vs ≡ true → is_of (scalar_or_pointer (slice_get rs i)) (unwrap_or (slice_get vs i) (zero_of (scalar_or_pointer (slice_get rs i)))) ≡ true
 get_typed [] [] i t = refl
 get_typed [] (v ∷ vs) i t = cc
 get_typed (r ∷ rs) [] i t = cc
@@ -119,7 +120,7 @@ call_arguments (Get to) c e = cc
 call_arguments (Put from) c e = cc
 call_arguments Abort c e = cc
 
-called_with : (globals : List Global) (x : Stmt) (c : Calling) (s : State) (xs : List Stmt) → call_of x ≡ Some c → arguments_at globals (x ∷ xs) s ≡ values_of globals (scope_of s.top) s.world.registers c.arguments
+pub called_with : (globals : List Global) (x : Stmt) (c : Calling) (s : State) (xs : List Stmt) → call_of x ≡ Some c → arguments_at globals (x ∷ xs) s ≡ values_of globals (scope_of s.top) s.world.registers c.arguments
 called_with globals (Copy to from) c s xs e = cc
 called_with globals (Arith to left op right) c s xs e = cc
 called_with globals (Compare to left cmp right) c s xs e = cc
@@ -156,7 +157,7 @@ module _ (p : Sealed) (n : ℕ) (f : Function) (t : Found) (accepted : first_fau
   abbrev Q : List Event → Event → Type 0
   Q past e = JumpsClaim p n f t past e
 
-  abbrev At_ : (past : List Event) (s : State) → List Value → Type 0
+  abbrev pub At_ : (past : List Event) (s : State) → List Value → Type 0
   At_ past s arguments = There p n f t accepted found input numbers past s arguments
 
   statement_there : (past : List Event) (s : State) (arguments : List Value) (at : At_ past s arguments) (x : Stmt) (xs : List Stmt) → s.top.rest ≡ x ∷ xs → statement_at p.program (record { function = n; block = s.top.block; index = s.top.index }) ≡ Some x
@@ -166,19 +167,22 @@ module _ (p : Sealed) (n : ℕ) (f : Function) (t : Found) (accepted : first_fau
       ∙ (ap (λ o. statement_of o s.top.index) at.found
       ∙ (ap (λ ys. slice_get ys s.top.index) body ∙ (ap (slice_get (at.done ++ x ∷ xs)) (sym at.index) ∙ at_seam at.done x xs)))
 
-  symbol_there : (past : List Event) (s : State) (arguments : List Value) (at : At_ past s arguments) (x : Operand) → jump_or (found_symbol p.program.globals f.locals t (record { function = n; block = s.top.block; index = s.top.index }) x) ≡ jump_of (operand_symbol (body_of p f) at.value x)
+  pub symbol_there : (past : List Event) (s : State) (arguments : List Value) (at : At_ past s arguments) (x : Operand) → jump_or (found_symbol p.program.globals f.locals t (record { function = n; block = s.top.block; index = s.top.index }) x) ≡ jump_of (operand_symbol (body_of p f) at.value x)
   symbol_there past s arguments at x =
       ap (λ b. jump_or (cond b (symbol_in p.program.globals f.locals t.registers (found_row t s.top.block s.top.index) x) None)) (own p n f t accepted found input numbers)
       ∙ ((λ i. jump_or (symbol_in p.program.globals f.locals (found.registers i) (row_there p n f t accepted found input numbers past s arguments at i) x)) ∙ looked_up (body_of p f) at.value x)
 
+  -- of one argument
+  pub argument_stands : (past : List Event) (s : State) (arguments : List Value) (same : s.top.function ≡ f) (at : At_ past s arguments) (x : Operand) →
+      JumpStands p.mode f arguments s.top.serial (jump_or (found_symbol p.program.globals f.locals t (record { function = n; block = s.top.block; index = s.top.index }) x)) (value_of p.program.globals (scope_of s.top) s.world.registers x)
+  argument_stands past s arguments same at x =
+      known_stands p.mode f arguments s.top.serial at.says.typed (found_symbol p.program.globals f.locals t (record { function = n; block = s.top.block; index = s.top.index }) x) (operand_symbol (body_of p f) at.value x) (value_of p.program.globals (scope_of s.top) s.world.registers x)
+      (symbol_there past s arguments at x) (operands p accepted input f arguments s.top s.world at.value same at.says.stands x)
+
   each_stands : (past : List Event) (s : State) (arguments : List Value) (same : s.top.function ≡ f) (at : At_ past s arguments) (xs : List Operand) →
       JumpsStand p.mode f arguments s.top.serial (jumps_at p.program.globals f.locals t (record { function = n; block = s.top.block; index = s.top.index }) xs) (values_of p.program.globals (scope_of s.top) s.world.registers xs)
   each_stands past s arguments same at [] = tt
-  each_stands past s arguments same at (x ∷ xs) = (
-    known_stands p.mode f arguments s.top.serial at.says.typed (found_symbol p.program.globals f.locals t (record { function = n; block = s.top.block; index = s.top.index }) x) (operand_symbol (body_of p f) at.value x) (value_of p.program.globals (scope_of s.top) s.world.registers x)
-        (symbol_there past s arguments at x) (operands p accepted input f arguments s.top s.world at.value same at.says.stands x),
-    each_stands past s arguments same at xs,
-  )
+  each_stands past s arguments same at (x ∷ xs) = (argument_stands past s arguments same at x, each_stands past s arguments same at xs)
 
   call_stands : (past : List Event) (s : State) (x : Stmt) (xs : List Stmt) (c : Calling) → Comes p input past s → s.top.rest ≡ x ∷ xs → call_of x ≡ Some c → (now : List Event) → arguments_of s.top.serial now ≡ arguments_of s.top.serial past →
       CallStands p n f t now (arguments_at p.program.globals s.top.rest s) (Some s.top)

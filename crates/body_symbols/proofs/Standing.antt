@@ -1,5 +1,5 @@
 -- What registers hold, and what their symbols say of it.
-use Rattle.std.proofs.Common.{◌≡◌, ℕ, zero, suc, ◌≤◌, nat_lt, ℤ, pos, ◌+ℤ◌, Bool, true, false, cond, if◌then◌else◌, List, [], ◌∷◌, length, refl, sym, ◌∙◌, ap, subst, arith, Option, Some, None, Result, Ok, slice_get, slice_set, unwrap_or}
+use Rattle.std.proofs.Common.{◌≡◌, ℕ, zero, suc, ◌<◌, ◌≤◌, nat_lt, ℤ, pos, ◌+ℤ◌, Bool, true, false, cond, if◌then◌else◌, List, [], ◌∷◌, length, refl, sym, ◌∙◌, ap, subst, arith, Option, Some, None, Result, Ok, slice_get, slice_set, unwrap_or}
 use Rattle.std.specs.List.{position}
 use Rattle.std.specs.Str.{bytes_eq}
 use Rattle.std.proofs.lemmas.Bool.{ltb-false}
@@ -27,6 +27,7 @@ use Rattle.gimple_core.specs.Memory.{moved_by}
 use Rattle.gimple_core.specs.State.{Scope, register_place, value_at, value_in, put_at, number_in, offset_in}
 use Rattle.gimple_core.specs.Run.{any_number, arith_of, compares, one_if, value_of, address_of, address_of_global, local_address, global_address}
 use Rattle.gimple_core.specs.Statements.{is_pointer}
+use Rattle.gimple_core.proofs.RangeLemmas.{wrapped_in}
 use Rattle.fix_engine.specs.Bools.{and_left, and_right}
 use Rattle.fix_engine.specs.Rows.{rows_below}
 use Rattle.block_flow.specs.Runs.{ReachedWith}
@@ -40,7 +41,7 @@ use Rattle.body_symbols.proofs.Offsets.{wrapped_still, moved_twice}
 
 -- ---- offsets
 
-zero_inside : in_scalar I64 (pos 0) ≡ true
+pub zero_inside : in_scalar I64 (pos 0) ≡ true
 zero_inside = refl
 
 offset_by : (z : ℤ) (b : Bool) → in_scalar I64 z ≡ b → in_scalar I64 (if b then z else pos 0) ≡ true
@@ -111,13 +112,45 @@ at_known : (object : Object) (v : Value) (o b : ℤ) → v ≡ At object o → m
 unfolding moved_by
 at_known object v o b e = ap (λ u. moved_by u b) e
 
+pub is_ptr : (scalar : Scalar) → is_pointer scalar ≡ true → scalar ≡ Ptr
+is_ptr I8 e = cc
+is_ptr I16 e = cc
+is_ptr I32 e = cc
+is_ptr I64 e = cc
+is_ptr U8 e = cc
+is_ptr U16 e = cc
+is_ptr U32 e = cc
+is_ptr U64 e = cc
+is_ptr Ptr e = refl
+
+-- an offset that is known is an i64
+abbrev pub IsOffset : Option ℤ → Type 0
+IsOffset None = Unit {0}
+IsOffset (Some o) = in_scalar I64 o ≡ true
+
+moved_inside : (o : Option ℤ) (r : Symbol) → IsOffset (moved_offset o r)
+moved_inside None r = tt
+moved_inside (Some o) (Const d) = wrapped_in I64 _
+moved_inside (Some o) (Formal j) = tt
+moved_inside (Some o) (FormalOp j op z) = tt
+moved_inside (Some o) (FormalAt j p) = tt
+moved_inside (Some o) (VariableAt x p) = tt
+moved_inside (Some o) Unknown = tt
+
 module _ (mode : Mode) (f : Function) (arguments : List Value) (serial : ℕ) where
   abbrev Is : Symbol → Value → Type 0
   Is a v = Stands mode f arguments serial a v
 
-  -- a symbol of a register that is an argument is one of a formal of the register's scalar
+  -- a formal of the function, of this scalar
+  pub record IsFormal (scalar : Scalar) (i : ℕ) : Type 0 where
+    pub within : i < length f.params
+    pub scalar_is : formal_scalar f i ≡ scalar
+
+  -- a symbol of a register that speaks of an argument speaks of one of a formal of the register's scalar
   abbrev pub KeepsScalar : Scalar → Symbol → Type 0
-  KeepsScalar scalar (Formal i) = formal_scalar f i ≡ scalar
+  KeepsScalar scalar (Formal i) = IsFormal scalar i
+  KeepsScalar scalar (FormalOp i op z) = IsFormal scalar i
+  KeepsScalar scalar (FormalAt i o) = IsFormal scalar i × IsOffset o
   KeepsScalar scalar a = Unit {0}
 
   pub record Fits (scalar : Scalar) (a : Symbol) (v : Value) : Type 0 where
@@ -129,7 +162,7 @@ module _ (mode : Mode) (f : Function) (arguments : List Value) (serial : ℕ) wh
 
   pub fits_above : (scalar : Scalar) (v : Value) (a b : Symbol) → symbol_below a b ≡ true → Fits scalar a v → Fits scalar b v
   fits_above scalar v a b e h =
-      rise_cases (λ a b. Fits scalar a v → Fits scalar b v) (λ a h. h) (λ a h. any_fits scalar v) (λ i z h. record { stands = from_known (argument_of f arguments i) v z h.stands; keeps = tt }) (λ x z h. record { stands = (z, h.stands); keeps = tt }) a b e h
+      rise_cases (λ a b. Fits scalar a v → Fits scalar b v) (λ a h. h) (λ a h. any_fits scalar v) (λ i z h. record { stands = from_known (argument_of f arguments i) v z h.stands; keeps = (h.keeps.0, tt) }) (λ x z h. record { stands = (z, h.stands); keeps = tt }) a b e h
 
   -- ---- rows
 
@@ -298,15 +331,15 @@ module _ (mode : Mode) (f : Function) (arguments : List Value) (serial : ℕ) wh
   unfolding moved_by
   null_moved v b e = ap (λ u. moved_by u b) e
 
-  moved_fits : (scalar : Scalar) (l r : Symbol) (vl vr : Value) → Is l vl → Is r vr → Fits scalar (moved_symbol l r) (moved_by vl (any_number vr))
-  moved_fits scalar (Const (Int z)) r vl vr h g = any_fits scalar _
-  moved_fits scalar (Const Null) r vl vr h g = record { stands = null_moved vl (any_number vr) h; keeps = tt }
-  moved_fits scalar (Const (GlobalAddress k o)) r vl vr h g = any_fits scalar _
-  moved_fits scalar (Formal i) r vl vr h g = any_fits scalar _
-  moved_fits scalar (FormalOp i op z) r vl vr h g = any_fits scalar _
-  moved_fits scalar (FormalAt i o) r vl vr h g = record { stands = moved_from i o r vl vr h g; keeps = tt }
-  moved_fits scalar (VariableAt x o) r vl vr h g = record { stands = moved_at (object_of serial x) o r vl vr h g; keeps = tt }
-  moved_fits scalar Unknown r vl vr h g = any_fits scalar _
+  moved_fits : (scalar : Scalar) (l r : Symbol) (vl vr : Value) → Is l vl → KeepsScalar scalar l → Is r vr → Fits scalar (moved_symbol l r) (moved_by vl (any_number vr))
+  moved_fits scalar (Const (Int z)) r vl vr h k g = any_fits scalar _
+  moved_fits scalar (Const Null) r vl vr h k g = record { stands = null_moved vl (any_number vr) h; keeps = tt }
+  moved_fits scalar (Const (GlobalAddress j o)) r vl vr h k g = any_fits scalar _
+  moved_fits scalar (Formal i) r vl vr h k g = any_fits scalar _
+  moved_fits scalar (FormalOp i op z) r vl vr h k g = any_fits scalar _
+  moved_fits scalar (FormalAt i o) r vl vr h k g = record { stands = moved_from i o r vl vr h g; keeps = (k.0, moved_inside o r) }
+  moved_fits scalar (VariableAt x o) r vl vr h k g = record { stands = moved_at (object_of serial x) o r vl vr h g; keeps = tt }
+  moved_fits scalar Unknown r vl vr h k g = any_fits scalar _
 
   abbrev okay : Value → Result Value TrapKind
   okay v = Ok v
@@ -314,64 +347,53 @@ module _ (mode : Mode) (f : Function) (arguments : List Value) (serial : ℕ) wh
   okay_same : (v w : Value) → okay v ≡ okay w → v ≡ w
   okay_same v w e = cc
 
-  operated_fits : (to scalar : Scalar) (l : Symbol) (op : Op) (r : Symbol) (vl vr v : Value) → Is l vl → KeepsScalar scalar l → Is r vr → arith_of mode scalar vl op vr ≡ Ok v → Fits to (operated_symbol l op r) v
-  operated_fits to scalar (Const c) op r vl vr v h k g e = any_fits to v
-  operated_fits to scalar (Formal i) op (Const (Int z)) vl vr v h k g e =
-      record { stands = ap (λ s. arith_of mode s (argument_of f arguments i) op (IntValue z)) k ∙ ((λ n. arith_of mode scalar (sym h n) op (sym g n)) ∙ e); keeps = tt }
-  operated_fits to scalar (Formal i) op (Const Null) vl vr v h k g e = any_fits to v
-  operated_fits to scalar (Formal i) op (Const (GlobalAddress j o)) vl vr v h k g e = any_fits to v
-  operated_fits to scalar (Formal i) op (Formal j) vl vr v h k g e = any_fits to v
-  operated_fits to scalar (Formal i) op (FormalOp j other z) vl vr v h k g e = any_fits to v
-  operated_fits to scalar (Formal i) op (FormalAt j o) vl vr v h k g e = any_fits to v
-  operated_fits to scalar (Formal i) op (VariableAt x o) vl vr v h k g e = any_fits to v
-  operated_fits to scalar (Formal i) op Unknown vl vr v h k g e = any_fits to v
-  operated_fits to scalar (FormalOp i other z) op r vl vr v h k g e = any_fits to v
-  operated_fits to scalar (FormalAt i o) op r vl vr v h k g e = any_fits to v
-  operated_fits to scalar (VariableAt x o) op r vl vr v h k g e = any_fits to v
-  operated_fits to scalar Unknown op r vl vr v h k g e = any_fits to v
+  operated_fits : (scalar : Scalar) (l : Symbol) (op : Op) (r : Symbol) (vl vr v : Value) → Is l vl → KeepsScalar scalar l → Is r vr → arith_of mode scalar vl op vr ≡ Ok v → Fits scalar (operated_symbol l op r) v
+  operated_fits scalar (Const c) op r vl vr v h k g e = any_fits scalar v
+  operated_fits scalar (Formal i) op (Const (Int z)) vl vr v h k g e =
+      record { stands = ap (λ s. arith_of mode s (argument_of f arguments i) op (IntValue z)) k.scalar_is ∙ ((λ n. arith_of mode scalar (sym h n) op (sym g n)) ∙ e); keeps = k }
+  operated_fits scalar (Formal i) op (Const Null) vl vr v h k g e = any_fits scalar v
+  operated_fits scalar (Formal i) op (Const (GlobalAddress j o)) vl vr v h k g e = any_fits scalar v
+  operated_fits scalar (Formal i) op (Formal j) vl vr v h k g e = any_fits scalar v
+  operated_fits scalar (Formal i) op (FormalOp j other z) vl vr v h k g e = any_fits scalar v
+  operated_fits scalar (Formal i) op (FormalAt j o) vl vr v h k g e = any_fits scalar v
+  operated_fits scalar (Formal i) op (VariableAt x o) vl vr v h k g e = any_fits scalar v
+  operated_fits scalar (Formal i) op Unknown vl vr v h k g e = any_fits scalar v
+  operated_fits scalar (FormalOp i other z) op r vl vr v h k g e = any_fits scalar v
+  operated_fits scalar (FormalAt i o) op r vl vr v h k g e = any_fits scalar v
+  operated_fits scalar (VariableAt x o) op r vl vr v h k g e = any_fits scalar v
+  operated_fits scalar Unknown op r vl vr v h k g e = any_fits scalar v
 
   pointer_result : (l : Value) (op : Op) (r v : Value) → arith_of mode Ptr l op r ≡ Ok v → moved_by l (any_number r) ≡ v
   unfolding arith_of
   pointer_result l op r v e = okay_same (moved_by l (any_number r)) v e
 
-  other_by : (to scalar : Scalar) (b : Bool) → is_pointer scalar ≡ b → (l : Symbol) (op : Op) (r : Symbol) (vl vr v : Value) → Is l vl → (is_pointer scalar ≡ false → KeepsScalar scalar l) → Is r vr → (is_pointer scalar ≡ true → scalar ≡ Ptr) → arith_of mode scalar vl op vr ≡ Ok v →
-      Fits to (cond b (moved_symbol l r) (operated_symbol l op r)) v
-  other_by to scalar true e l op r vl vr v h k g p d =
-      subst (λ u. Fits to (moved_symbol l r) u) (pointer_result vl op vr v (subst (λ s. arith_of mode s vl op vr ≡ Ok v) (p e) d)) (moved_fits to l r vl vr h g)
-  other_by to scalar false e l op r vl vr v h k g p d = operated_fits to scalar l op r vl vr v h (k e) g d
+  other_by : (scalar : Scalar) (b : Bool) → is_pointer scalar ≡ b → (l : Symbol) (op : Op) (r : Symbol) (vl vr v : Value) → Is l vl → KeepsScalar scalar l → Is r vr → (is_pointer scalar ≡ true → scalar ≡ Ptr) → arith_of mode scalar vl op vr ≡ Ok v →
+      Fits scalar (cond b (moved_symbol l r) (operated_symbol l op r)) v
+  other_by scalar true e l op r vl vr v h k g p d =
+      subst (λ u. Fits scalar (moved_symbol l r) u) (pointer_result vl op vr v (subst (λ s. arith_of mode s vl op vr ≡ Ok v) (p e) d)) (moved_fits scalar l r vl vr h k g)
+  other_by scalar false e l op r vl vr v h k g p d = operated_fits scalar l op r vl vr v h k g d
 
-  is_ptr : (scalar : Scalar) → is_pointer scalar ≡ true → scalar ≡ Ptr
-  is_ptr I8 e = cc
-  is_ptr I16 e = cc
-  is_ptr I32 e = cc
-  is_ptr I64 e = cc
-  is_ptr U8 e = cc
-  is_ptr U16 e = cc
-  is_ptr U32 e = cc
-  is_ptr U64 e = cc
-  is_ptr Ptr e = refl
+  other_fits : (scalar : Scalar) (l : Symbol) (op : Op) (r : Symbol) (vl vr v : Value) → Is l vl → KeepsScalar scalar l → Is r vr → arith_of mode scalar vl op vr ≡ Ok v → Fits scalar (other_symbol scalar l op r) v
+  other_fits scalar l op r vl vr v h k g d = other_by scalar (is_pointer scalar) refl l op r vl vr v h k g (is_ptr scalar) d
 
-  other_fits : (to scalar : Scalar) (l : Symbol) (op : Op) (r : Symbol) (vl vr v : Value) → Is l vl → (is_pointer scalar ≡ false → KeepsScalar scalar l) → Is r vr → arith_of mode scalar vl op vr ≡ Ok v → Fits to (other_symbol scalar l op r) v
-  other_fits to scalar l op r vl vr v h k g d = other_by to scalar (is_pointer scalar) refl l op r vl vr v h k g (is_ptr scalar) d
-
-  constants_fit : (to scalar : Scalar) (c d : Constant) (op : Op) (vl vr v : Value) → vl ≡ value_of_constant c → vr ≡ value_of_constant d → arith_of mode scalar vl op vr ≡ Ok v → ReachedWith (λ a. Fits to a v) (evaluated (arith_of mode scalar (value_of_constant c) op (value_of_constant d)))
-  constants_fit to scalar c d op vl vr v h g e =
+  constants_fit : (scalar : Scalar) (c d : Constant) (op : Op) (vl vr v : Value) → vl ≡ value_of_constant c → vr ≡ value_of_constant d → arith_of mode scalar vl op vr ≡ Ok v → ReachedWith (λ a. Fits scalar a v) (evaluated (arith_of mode scalar (value_of_constant c) op (value_of_constant d)))
+  constants_fit scalar c d op vl vr v h g e =
       let same : arith_of mode scalar (value_of_constant c) op (value_of_constant d) ≡ Ok v = (λ n. arith_of mode scalar (sym h n) op (sym g n)) ∙ e in
-      subst (λ r. ReachedWith (λ a. Fits to a v) (evaluated r)) (sym same) (value_fits to v)
+      subst (λ r. ReachedWith (λ a. Fits scalar a v) (evaluated r)) (sym same) (value_fits scalar v)
 
-  pub arith_fits : (to scalar : Scalar) (l : Symbol) (op : Op) (r : Symbol) (vl vr v : Value) → Is l vl → (is_pointer scalar ≡ false → KeepsScalar scalar l) → Is r vr → arith_of mode scalar vl op vr ≡ Ok v → ReachedWith (λ a. Fits to a v) (arith_symbol mode scalar l op r)
+  pub arith_fits : (scalar : Scalar) (l : Symbol) (op : Op) (r : Symbol) (vl vr v : Value) → Is l vl → KeepsScalar scalar l → Is r vr → arith_of mode scalar vl op vr ≡ Ok v → ReachedWith (λ a. Fits scalar a v) (arith_symbol mode scalar l op r)
   unfolding arith_symbol
-  arith_fits to scalar (Const c) op (Const d) vl vr v h k g e = constants_fit to scalar c d op vl vr v h g e
-  arith_fits to scalar (Const c) op (Formal j) vl vr v h k g e = other_fits to scalar (Const c) op (Formal j) vl vr v h k g e
-  arith_fits to scalar (Const c) op (FormalOp j other z) vl vr v h k g e = other_fits to scalar (Const c) op (FormalOp j other z) vl vr v h k g e
-  arith_fits to scalar (Const c) op (FormalAt j o) vl vr v h k g e = other_fits to scalar (Const c) op (FormalAt j o) vl vr v h k g e
-  arith_fits to scalar (Const c) op (VariableAt x o) vl vr v h k g e = other_fits to scalar (Const c) op (VariableAt x o) vl vr v h k g e
-  arith_fits to scalar (Const c) op Unknown vl vr v h k g e = other_fits to scalar (Const c) op Unknown vl vr v h k g e
-  arith_fits to scalar (Formal i) op r vl vr v h k g e = other_fits to scalar (Formal i) op r vl vr v h k g e
-  arith_fits to scalar (FormalOp i other z) op r vl vr v h k g e = other_fits to scalar (FormalOp i other z) op r vl vr v h k g e
-  arith_fits to scalar (FormalAt i o) op r vl vr v h k g e = other_fits to scalar (FormalAt i o) op r vl vr v h k g e
-  arith_fits to scalar (VariableAt x o) op r vl vr v h k g e = other_fits to scalar (VariableAt x o) op r vl vr v h k g e
-  arith_fits to scalar Unknown op r vl vr v h k g e = other_fits to scalar Unknown op r vl vr v h k g e
+  arith_fits scalar (Const c) op (Const d) vl vr v h k g e = constants_fit scalar c d op vl vr v h g e
+  arith_fits scalar (Const c) op (Formal j) vl vr v h k g e = other_fits scalar (Const c) op (Formal j) vl vr v h k g e
+  arith_fits scalar (Const c) op (FormalOp j other z) vl vr v h k g e = other_fits scalar (Const c) op (FormalOp j other z) vl vr v h k g e
+  arith_fits scalar (Const c) op (FormalAt j o) vl vr v h k g e = other_fits scalar (Const c) op (FormalAt j o) vl vr v h k g e
+  arith_fits scalar (Const c) op (VariableAt x o) vl vr v h k g e = other_fits scalar (Const c) op (VariableAt x o) vl vr v h k g e
+  arith_fits scalar (Const c) op Unknown vl vr v h k g e = other_fits scalar (Const c) op Unknown vl vr v h k g e
+  arith_fits scalar (Formal i) op r vl vr v h k g e = other_fits scalar (Formal i) op r vl vr v h k g e
+  arith_fits scalar (FormalOp i other z) op r vl vr v h k g e = other_fits scalar (FormalOp i other z) op r vl vr v h k g e
+  arith_fits scalar (FormalAt i o) op r vl vr v h k g e = other_fits scalar (FormalAt i o) op r vl vr v h k g e
+  arith_fits scalar (VariableAt x o) op r vl vr v h k g e = other_fits scalar (VariableAt x o) op r vl vr v h k g e
+  arith_fits scalar Unknown op r vl vr v h k g e = other_fits scalar Unknown op r vl vr v h k g e
 
   -- ---- comparisons
 

@@ -35,7 +35,7 @@ use Rattle.body_symbols.specs.declared.symbol.Symbol.{Symbol}
 use Rattle.body_symbols.specs.declared.symbol.Symbol.TheVariants.{Unknown}
 use Rattle.body_symbols.specs.Bodies.{Body, body_of, place_of, symbol_or, operand_symbol, arith_symbol, register_scalar, set_reached, set_result, change_of, changed}
 use Rattle.body_symbols.specs.Claims.{Stands}
-use Rattle.body_symbols.proofs.Standing.{KeepsScalar, Fits, any_fits, RowStands, put_stands, forget, keeps_at, operand_stands, address_keeps, arith_fits, compare_fits}
+use Rattle.body_symbols.proofs.Standing.{KeepsScalar, Fits, any_fits, RowStands, put_stands, forget, keeps_at, operand_stands, address_keeps, is_ptr, arith_fits, compare_fits}
 
 place_found : (b : Bool) (n i : ℕ) → cond b (Some n) None ≡ Some i → n ≡ i
 place_found true n i h = cc
@@ -97,15 +97,16 @@ module _ (p : Sealed) (f : Function) (arguments : List Value) (serial : ℕ) whe
         subst (λ t. KeepsScalar p.mode f arguments serial t (symbol_or (slice_get row (place_of (registers_of f) name)))) c.scalar_is
         (keeps_at p.mode f arguments serial (registers_of f) row d.registers (place_of (registers_of f) name) c.register there h)
 
-    keeps : (scalar : Scalar) (x : Operand) → s.operand (env_of p.program f) 4 scalar x ≡ Ok tt → KeepsScalar p.mode f arguments serial scalar (operand_symbol B row x)
+    -- so does an operand
+    pub keeps : (wrong : ℕ) (scalar : Scalar) (x : Operand) → s.operand (env_of p.program f) wrong scalar x ≡ Ok tt → KeepsScalar p.mode f arguments serial scalar (operand_symbol (body_of p f) row x)
     unfolding s.operand operand_symbol
-    keeps scalar (Reg name) e =
+    keeps wrong scalar (Reg name) e =
         let own = first_passed (scalar_of (env_of p.program f) name) _ tt e in
-        let same : own.0 ≡ scalar = same_scalar_true own.0 scalar (demanded _ 4 own.2) in
+        let same : own.0 ≡ scalar = same_scalar_true own.0 scalar (demanded _ wrong own.2) in
         register_keeps name scalar (subst (λ t. scalar_of (env_of p.program f) name ≡ Ok t) same own.1)
-    keeps scalar (Number z) e = tt
-    keeps scalar NullOperand e = tt
-    keeps scalar (Address name offset) e = address_keeps p.mode f arguments serial scalar p.program.globals f.locals name offset
+    keeps wrong scalar (Number z) e = tt
+    keeps wrong scalar NullOperand e = tt
+    keeps wrong scalar (Address name offset) e = address_keeps p.mode f arguments serial scalar p.program.globals f.locals name offset
 
     -- ---- statements
 
@@ -114,22 +115,26 @@ module _ (p : Sealed) (f : Function) (arguments : List Value) (serial : ℕ) whe
     copied names to from checked r e =
         let own = first_passed (scalar_of (env_of p.program f) to) _ tt checked in
         let same : r.scalar ≡ own.0 = register_is (registers_of f) to own.0 r (has_register p.program f (registers_of f) to own.0 refl own.1) e in
-        record { stands = stands from; keeps = subst (λ t. KeepsScalar p.mode f arguments serial t (operand_symbol B row from)) (sym same) (keeps own.0 from own.2) }
+        record { stands = stands from; keeps = subst (λ t. KeepsScalar p.mode f arguments serial t (operand_symbol B row from)) (sym same) (keeps 4 own.0 from own.2) }
 
-    left_passes : (scalar : Scalar) (left : Operand) (op : Op) (right : Operand) → s.arith (env_of p.program f) scalar left op right ≡ Ok tt → is_pointer scalar ≡ false → s.operand (env_of p.program f) 4 scalar left ≡ Ok tt
+    left_by : (scalar : Scalar) (left : Operand) (op : Op) (right : Operand) (b : Bool) → (is_pointer scalar ≡ true → scalar ≡ Ptr) → is_pointer scalar ≡ b →
+        (cond b (demand (s.is_add op) 4 >> (s.operand (env_of p.program f) 4 Ptr left >> s.operand (env_of p.program f) 4 I64 right)) (s.operand (env_of p.program f) 4 scalar left >> s.right_side (env_of p.program f) scalar op right)) ≡ Ok tt → s.operand (env_of p.program f) 4 scalar left ≡ Ok tt
+    left_by scalar left op right true is e checked =
+        let more = first_passed (demand (s.is_add op) 4) _ tt checked in
+        subst (λ t. s.operand (env_of p.program f) 4 t left ≡ Ok tt) (sym (is e)) (first_passed (s.operand (env_of p.program f) 4 Ptr left) _ tt more.2).1
+    left_by scalar left op right false is e checked = (first_passed (s.operand (env_of p.program f) 4 scalar left) _ tt checked).1
+
+    left_passes : (scalar : Scalar) (left : Operand) (op : Op) (right : Operand) → s.arith (env_of p.program f) scalar left op right ≡ Ok tt → s.operand (env_of p.program f) 4 scalar left ≡ Ok tt
     unfolding s.arith
-    left_passes scalar left op right checked plain =
-        let inside : (s.operand (env_of p.program f) 4 scalar left >> s.right_side (env_of p.program f) scalar op right) ≡ Ok tt = subst (λ b. (cond b (demand (s.is_add op) 4 >> (s.operand (env_of p.program f) 4 Ptr left >> s.operand (env_of p.program f) 4 I64 right)) (s.operand (env_of p.program f) 4 scalar left >> s.right_side (env_of p.program f) scalar op right)) ≡ Ok tt) plain checked in
-        (first_passed (s.operand (env_of p.program f) 4 scalar left) _ tt inside).1
+    left_passes scalar left op right checked = left_by scalar left op right (is_pointer scalar) (is_ptr scalar) refl checked
 
-    left_keeps : (names : Names Function) (to : List ℕ) (left : Operand) (op : Op) (right : Operand) → s.statement (env_of p.program f) names (Arith to left op right) ≡ Ok tt → is_pointer (register_scalar (registers_of f) to) ≡ false →
-        KeepsScalar p.mode f arguments serial (register_scalar (registers_of f) to) (operand_symbol B row left)
+    left_keeps : (names : Names Function) (to : List ℕ) (left : Operand) (op : Op) (right : Operand) → s.statement (env_of p.program f) names (Arith to left op right) ≡ Ok tt → KeepsScalar p.mode f arguments serial (register_scalar (registers_of f) to) (operand_symbol B row left)
     unfolding s.statement
-    left_keeps names to left op right checked plain =
+    left_keeps names to left op right checked =
         let own = first_passed (scalar_of (env_of p.program f) to) _ tt checked in
         let c : HasRegister (registers_of f) to own.0 = has_register p.program f (registers_of f) to own.0 refl own.1 in
         let same : register_scalar (registers_of f) to ≡ own.0 = ap (λ n. scalar_or_pointer (slice_get (registers_of f) n)) (place_is (registers_of f) to c.place c.place_is) ∙ (ap scalar_or_pointer c.at ∙ c.scalar_is) in
-        subst (λ t. KeepsScalar p.mode f arguments serial t (operand_symbol B row left)) (sym same) (keeps own.0 left (left_passes own.0 left op right own.2 (ap is_pointer (sym same) ∙ plain)))
+        subst (λ t. KeepsScalar p.mode f arguments serial t (operand_symbol B row left)) (sym same) (keeps 4 own.0 left (left_passes own.0 left op right own.2))
 
     abbrev fine : World → Result World TrapKind
     fine w = Ok w
@@ -138,13 +143,9 @@ module _ (p : Sealed) (f : Function) (arguments : List Value) (serial : ℕ) whe
     Done (Ok w) x = After w.registers (changed row (change_of B row x))
     Done (Err kind) x = Unit {0}
 
-    set_done : (vs : List Value) (to : List ℕ) (x : Lifted Symbol) (v : Value) → ReachedWith (λ a. (r : Register) → IsFit r.scalar a v) x → After (put_at d.registers (register_place (registers_of f) to) v) (changed row (set_reached B to x))
+    set_done : (vs : List Value) (to : List ℕ) (x : Lifted Symbol) (v : Value) → ReachedWith (λ a. IsFit (register_scalar (registers_of f) to) a v) x → After (put_at d.registers (register_place (registers_of f) to) v) (changed row (set_reached B to x))
     set_done vs to NotReached v g = absurd g
-    set_done vs to (Reached a) v g = assigned row d.registers to a v h (λ r e. g r)
-
-    reached_all : (x : Lifted Symbol) (v : Value) → ((r : Register) → ReachedWith (λ a. IsFit r.scalar a v) x) → ((scalar : Scalar) → ReachedWith (λ a. IsFit scalar a v) x) → ReachedWith (λ a. (r : Register) → IsFit r.scalar a v) x
-    reached_all NotReached v g k = k I8
-    reached_all (Reached a) v g k = g
+    set_done vs to (Reached a) v g = assigned row d.registers to a v h (λ r e. subst (λ t. IsFit t a v) (ap scalar_or_pointer e) g)
 
     arith_done : (names : Names Function) (to : List ℕ) (left : Operand) (op : Op) (right : Operand) → s.statement (env_of p.program f) names (Arith to left op right) ≡ Ok tt → (r : Result Value TrapKind) →
         arith_of p.mode (scalar_in scope to) (value_of p.program.globals scope d.registers left) op (value_of p.program.globals scope d.registers right) ≡ r → Done (assign_result scope d to r) (Arith to left op right)
@@ -153,10 +154,8 @@ module _ (p : Sealed) (f : Function) (arguments : List Value) (serial : ℕ) whe
     arith_done names to left op right checked (Ok v) e =
         let result : arith_of p.mode (register_scalar (registers_of f) to) (value_of p.program.globals scope d.registers left) op (value_of p.program.globals scope d.registers right) ≡ Ok v =
         subst (λ t. arith_of p.mode t (value_of p.program.globals scope d.registers left) op (value_of p.program.globals scope d.registers right) ≡ Ok v) (scalar_same scope to) e in
-        let fit : (scalar : Scalar) → ReachedWith (λ a. IsFit scalar a v) (arith_symbol p.mode (register_scalar (registers_of f) to) (operand_symbol B row left) op (operand_symbol B row right)) = λ scalar.
-        arith_fits p.mode f arguments serial scalar (register_scalar (registers_of f) to) (operand_symbol B row left) op (operand_symbol B row right) (value_of p.program.globals scope d.registers left) (value_of p.program.globals scope d.registers right) v (stands left) (left_keeps names to left op right checked) (stands right) result in
         set_done d.registers to (arith_symbol p.mode (register_scalar (registers_of f) to) (operand_symbol B row left) op (operand_symbol B row right)) v
-        (reached_all (arith_symbol p.mode (register_scalar (registers_of f) to) (operand_symbol B row left) op (operand_symbol B row right)) v (λ r. fit r.scalar) fit)
+        (arith_fits p.mode f arguments serial (register_scalar (registers_of f) to) (operand_symbol B row left) op (operand_symbol B row right) (value_of p.program.globals scope d.registers left) (value_of p.program.globals scope d.registers right) v (stands left) (left_keeps names to left op right checked) (stands right) result)
 
     load_done : (to : List ℕ) (r : Result FoundSlot TrapKind) → (x : Stmt) → changed row (change_of B row x) ≡ Reached (slice_set row (place_of (registers_of f) to) Unknown) → Done (loaded scope d to r) x
     load_done to (Err kind) x e = tt
