@@ -2,3 +2,14 @@ pub mod Trimmed
 pub mod Carried
 pub mod Makers
 pub mod Claims
+pub mod Few
+pub mod Gifts
+pub mod Lattices
+pub mod Gathered
+pub mod LatticeClaims
+pub mod GiftLists
+pub mod Callers
+pub mod Numbered
+pub mod FormalEquations
+pub mod FormalLaws
+pub mod FormalRows
