@@ -1,5 +1,4 @@
 pub mod Sizes
 pub mod Lines
-pub mod Small
 pub mod ClassLines
 pub mod CpLines

@@ -1,6 +1,5 @@
 pub mod IndirectCalls
 pub mod Dumps
-pub mod Sample
 pub mod Classes
 pub mod Groups
 pub mod ValueTexts

@@ -7,8 +7,6 @@ mod classes;
 mod cp;
 mod indirect;
 mod place;
-#[cfg(test)]
-mod tests;
 mod value;
 
 pub use cgraph::{GraphView, dump_cgraph};
