@@ -44,11 +44,11 @@ parts_of_program p = sum_by width p.structs + (length p.globals + (length p.func
 -- ---- the tokens of each part
 
 module _ {A : Type 0} (S : A → Tokens → Type 0) (m : A → ℕ) (each : (x : A) (ts : Tokens) → S x ts → m x ≤ length ts) where
-  many_size : (xs : List A) (ts : Tokens) → IsMany S xs ts → sum_by m xs ≤ length ts
+  pub many_size : (xs : List A) (ts : Tokens) → IsMany S xs ts → sum_by m xs ≤ length ts
   many_size [] ts h = omega arith
   many_size (x ∷ xs) ts h = omega (arith, sum_by-cons m x xs, each x h.0 h.2, many_size xs h.1 h.3, length-append h.0 h.1, ap length h.4)
 
-  comma_size : (x : A) (ts : Tokens) → IsAfterComma S x ts → m x ≤ length ts
+  pub comma_size : (x : A) (ts : Tokens) → IsAfterComma S x ts → m x ≤ length ts
   comma_size x ts h = omega (arith, each x h.0 h.1, ap length h.2)
 
 counted : {A : Type 0} (xs : List A) → sum_by (λ _. 1) xs ≡ length xs
@@ -124,16 +124,17 @@ local_size d ts h = omega (arith, ap length h)
 function_locals : (profile : ℕ) (f : Function) (ts : Tokens) → IsFunction profile f ts → length f.locals ≤ length ts
 function_locals profile f ts h = omega (arith, many_size IsLocal (λ _. 1) local_size f.locals h.2 h.7, counted f.locals, simp length-append at (ap length h.10))
 
--- registers with commas between
-registers_size : (xs : List Register) (ts : Tokens) → IsSeparated IsRegister xs ts → length xs ≤ length ts
-registers_size [] ts h = omega arith
-registers_size (x ∷ xs) ts h =
-    omega (arith, register_size x h.0 h.2, many_size (IsAfterComma IsRegister) (λ _. 1) (comma_size IsRegister (λ _. 1) register_size) xs h.1 h.3, counted xs, length-append h.0 h.1, ap length h.4) where
-      register_size : (x : Register) (ts : Tokens) → IsRegister x ts → 1 ≤ length ts
-      register_size x ts h = omega (arith, ap length h)
+-- parts with commas between, each of a token or more
+pub separated_size : {A : Type 0} (S : A → Tokens → Type 0) → ((x : A) (ts : Tokens) → S x ts → 1 ≤ length ts) → (xs : List A) (ts : Tokens) → IsSeparated S xs ts → length xs ≤ length ts
+separated_size S each [] ts h = omega arith
+separated_size S each (x ∷ xs) ts h =
+    omega (arith, each x h.0 h.2, many_size (IsAfterComma S) (λ _. 1) (comma_size S (λ _. 1) each) xs h.1 h.3, counted xs, length-append h.0 h.1, ap length h.4)
 
-function_formals : (profile : ℕ) (f : Function) (ts : Tokens) → IsFunction profile f ts → length f.params ≤ length ts
-function_formals profile f ts h = omega (arith, registers_size f.params h.1 h.6, simp length-append at (ap length h.10))
+register_size : (x : Register) (ts : Tokens) → IsRegister x ts → 1 ≤ length ts
+register_size x ts h = omega (arith, ap length h)
+
+pub function_formals : (profile : ℕ) (f : Function) (ts : Tokens) → IsFunction profile f ts → length f.params ≤ length ts
+function_formals profile f ts h = omega (arith, separated_size IsRegister register_size f.params h.1 h.6, simp length-append at (ap length h.10))
 
 -- a number of each function that its tokens bound is below what bounds all tokens
 module _ (profile : ℕ) (m : Function → ℕ) (each : (f : Function) (ts : Tokens) → IsFunction profile f ts → m f ≤ length ts) where
@@ -166,6 +167,10 @@ narrow n (x ∷ xs) h =
 functions_below : (bs : Bytes) (p : Program) (h : Spells bs p) → length h.spelled.2 < length bs
 functions_below bs p h =
     omega (arith, simp length-append at (ap length h.spelled.6), lexed_from (skip false bs) h.tokens h.lexed, skip_length false bs)
+
+-- what the tokens of each function bound, the bytes of a text bound in sum
+pub functions_size : (m : Function → ℕ) → ((profile : ℕ) (f : Function) (ts : Tokens) → IsFunction profile f ts → m f ≤ length ts) → (bs : Bytes) (p : Program) → Spells bs p → sum_by m p.functions < length bs
+functions_size m each bs p h = omega (arith, many_size (IsFunction p.profile) m (each p.profile) p.functions h.spelled.2 h.spelled.5, functions_below bs p h)
 
 -- a text spells a program of fewer parts of each kind than it has bytes
 pub counts : (bs : Bytes) (p : Program) → Spells bs p → CountsWithin (length bs) p

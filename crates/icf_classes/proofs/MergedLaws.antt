@@ -31,7 +31,7 @@ use Rattle.icf_classes.proofs.Represented.{classes_send, kept_closed}
 
 -- ---- the size
 
-sum_mapped : {X Y : Type 0} (v : X → ℕ) (w : Y → ℕ) (g : X → Y) → ((x : X) → w (g x) ≡ v x) → (xs : List X) → sum_by w (map g xs) ≡ sum_by v xs
+pub sum_mapped : {X Y : Type 0} (v : X → ℕ) (w : Y → ℕ) (g : X → Y) → ((x : X) → w (g x) ≡ v x) → (xs : List X) → sum_by w (map g xs) ≡ sum_by v xs
 sum_mapped v w g e [] = refl
 sum_mapped v w g e (x ∷ xs) = sum_by-cons w (g x) (map g xs) ∙ ((λ i. e x i + sum_mapped v w g e xs i) ∙ sym (sum_by-cons v x xs))
 
