@@ -26,6 +26,7 @@ use Rattle.ipa_driver.specs.Source.{input_name, HasVerdict, IsUnread, IsGoodSour
 use Rattle.ipa_driver.specs.Answers.{IsOfText, Refused, Answer, IsComplete, IsDone, TellsOne, TopAnswers, NoneRose, fault_status}
 use Rattle.ipa_driver.specs.Work.{LoadsText, Judges, IsLoaded, WorkKeeps, WorkSure, MessageTold}
 use Rattle.ipa_driver.proofs.VerdictLaws.{one}
+use Rattle.ipa_driver.proofs.FewLaws.{few_spelled}
 
 -- what holds of a text that was fetched holds of its source
 module _ (P : List ℕ → Type 0) (text : List ℕ) (h : P text) where
@@ -49,6 +50,7 @@ judged words file mode old new text (Ok checked) l j = record {
   good = fetched (λ bytes. IsVerdict bytes (Good checked.program)) text j.0 old.sources (bytes_of words file) l.source;
   spellable = spelled_spellable text checked.program j.0.spelled;
   countable = countable text checked.program j.0.spelled (omega (arith, j.0.within));
+  few = few_spelled text checked.program j.0.spelled j.0.within;
   mode = j.1;
   read = l.read;
 }

@@ -1,7 +1,9 @@
+pub mod FewLaws
 pub mod VerdictLaws
 pub mod StoreLaws
 pub mod AnswerLaws
 pub mod GraphLaws
 pub mod IcfLaws
+pub mod CpLaws
 pub mod MadeLaws
 pub mod WorkLaws

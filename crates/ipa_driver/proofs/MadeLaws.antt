@@ -16,6 +16,9 @@ use Rattle.ipa_driver.specs.declared.passes.Asked.{Asked}
 use Rattle.ipa_driver.specs.declared.passes.Legs.{Legs}
 use Rattle.ipa_driver.specs.declared.passes.Product.{Product}
 use Rattle.ipa_driver.specs.Legs.{IsLeg, IsIdle, NotBuilt}
+use Rattle.cp_lattices.proofs.Fitting.{lattices_fit}
+use Rattle.cp_lattices.proofs.LatticeLaws.{lattices_hold}
+use Rattle.ipa_driver.proofs.CpLaws.{cp_replaces, cp_shrinks}
 use Rattle.ipa_driver.proofs.IcfLaws.{icf_replaces, icf_shrinks}
 use Rattle.ipa_driver.specs.Pipeline.{AreLegs, DropsUnreached, IsPipeline, IsMade}
 
@@ -31,21 +34,32 @@ idle_program false name p asked leg h = h.program
 
 -- ---- the legs
 
-module _ (p : Sealed) (asked : Asked) (passes : Passes) (legs : Legs) (accepted : IsAccepted p.program) (h : AreLegs p asked passes legs) where
-  last_program : h.cleared.program ≡ h.folded.program
+module _ (p : Sealed) (asked : Asked) (passes : Passes) (params : Params) (legs : Legs) (accepted : IsAccepted p.program) (h : AreLegs p asked passes params legs) where
+  last_program : h.cleared.program ≡ h.propagated.program
   last_program =
       idle_program passes.modref _ h.split.program asked.modref h.cleared h.modref
       ∙ idle_program passes.sra _ h.propagated.program asked.sra h.split h.sra
-      ∙ idle_program passes.cp _ h.folded.program asked.cp h.propagated h.cp
 
-  pub legs_program : legs.program ≡ h.folded.program
+  pub legs_program : legs.program ≡ h.propagated.program
   legs_program = ap (λ (l : Legs). l.program) h.kept ∙ last_program
 
   pub folded_shrinks : size_of_program h.folded.program.program ≤ size_of_program p.program
   folded_shrinks = icf_shrinks p asked.icf h.folded accepted passes.icf h.icf
 
+  folds : Replaces 1 p h.folded.program
+  folds = icf_replaces p asked.icf h.folded accepted passes.icf h.icf
+
+  propagates : Replaces 1 h.folded.program h.propagated.program
+  propagates = cp_replaces lattices_hold lattices_fit passes params.ipa_cp_value_list_size h.folded.program asked.cp h.propagated folds.accepted passes.cp h.cp
+
+  -- what the legs behind identical code folding make is no larger than what it gives
+  pub legs_shrink : size_of_program legs.program.program ≤ size_of_program h.folded.program.program
+  legs_shrink =
+      subst (λ (s : Sealed). size_of_program s.program ≤ size_of_program h.folded.program.program) (sym legs_program)
+      (cp_shrinks lattices_hold lattices_fit passes params.ipa_cp_value_list_size h.folded.program asked.cp h.propagated folds.accepted passes.cp h.cp)
+
   pub legs_replace : Replaces 1 p legs.program
-  legs_replace = subst (λ (s : Sealed). Replaces 1 p s) (sym legs_program) (icf_replaces p asked.icf h.folded accepted passes.icf h.icf)
+  legs_replace = subst (λ (s : Sealed). Replaces 1 p s) (sym legs_program) (replaces_in_turn 1 1 p h.folded.program h.propagated.program folds propagates)
 
 -- ---- the pipeline
 
@@ -75,15 +89,15 @@ pub still_countable : (p q : Sealed) → Replaces 1 p q → IsCountable p.progra
 still_countable p q r n = counted_once (2 ^ 32) q.program (r.counts (2 ^ 32) n)
 
 -- what the legs give can be counted
-pub behind_legs : (p reached : Sealed) (asked : Asked) (passes : Passes) (legs : Legs) → Replaces 1 p reached → AreLegs reached asked passes legs → IsCountable p.program → IsCountable legs.program.program
-behind_legs p reached asked passes legs r h n = still_countable reached legs.program (legs_replace reached asked passes legs r.accepted h) (still_countable p reached r n)
+pub behind_legs : (p reached : Sealed) (asked : Asked) (passes : Passes) (params : Params) (legs : Legs) → Replaces 1 p reached → AreLegs reached asked passes params legs → IsCountable p.program → IsCountable legs.program.program
+behind_legs p reached asked passes params legs r h n = still_countable reached legs.program (legs_replace reached asked passes params legs r.accepted h) (still_countable p reached r n)
 
 module _ (p : Sealed) (asked : Asked) (passes : Passes) (params : Params) (product : Product) (accepted : IsAccepted p.program) (h : IsPipeline p asked passes params product) where
   first : Replaces 1 p h.reached
   first = drop_replaces p h.reached accepted h.drops
 
   between : Replaces 1 h.reached h.legs.program
-  between = legs_replace h.reached asked passes h.legs first.accepted h.passed
+  between = legs_replace h.reached asked passes params h.legs first.accepted h.passed
 
   pub replaces : Replaces 1 p product.program
   replaces =
@@ -92,11 +106,10 @@ module _ (p : Sealed) (asked : Asked) (passes : Passes) (params : Params) (produ
       (drop_replaces h.legs.program product.program between.accepted h.drops_again)
 
   entering_size : size_of_program h.passed.folded.program.program ≤ size_of_program p.program
-  entering_size = le_trans (folded_shrinks h.reached asked passes h.legs first.accepted h.passed) (dropped_size p h.reached h.drops)
+  entering_size = le_trans (folded_shrinks h.reached asked passes params h.legs first.accepted h.passed) (dropped_size p h.reached h.drops)
 
   last_size : size_of_program product.program.program ≤ size_of_program h.passed.folded.program.program
-  last_size =
-      subst (λ (s : Sealed). size_of_program product.program.program ≤ size_of_program s.program) (legs_program h.reached asked passes h.legs first.accepted h.passed) (dropped_size h.legs.program product.program h.drops_again)
+  last_size = le_trans (dropped_size h.legs.program product.program h.drops_again) (legs_shrink h.reached asked passes params h.legs first.accepted h.passed)
 
   pub made : IsMade p asked passes params product
   made = record {

@@ -1,5 +1,5 @@
 -- From a program that was loaded, and its texts, to the answer.
-use Rattle.std.proofs.Common.{◌≡◌, ℕ, ◌-◌, ◌≤◌, List, Option, Some, None, Result, Ok, Err, sym, ◌∙◌, subst}
+use Rattle.std.proofs.Common.{◌≡◌, ℕ, ◌-◌, ◌≤◌, List, Option, Some, None, Result, Ok, Err, refl, sym, ap, ◌∙◌, subst}
 use Rattle.std.specs.Prelude.{IsOkAnd}
 use Rattle.std.specs.Option.{IsSomeAnd, IfSome}
 use Rattle.shelf.specs.Outside.{Meaning, Contents, at_name}
@@ -16,6 +16,23 @@ use Rattle.ipa_driver.specs.Stores.{pairs, total, StoresOnly, AreStored, IsCut, 
 use Rattle.ipa_driver.specs.Source.{HasVerdict, MadeOf, CostsAtMost, WithinRoom}
 use Rattle.ipa_driver.specs.Answers.{IsDone, IsNotWritten}
 use Rattle.ipa_driver.specs.Work.{Loads, IsLoaded}
+use Rattle.gimple_ir.specs.declared.program.Program.{Program}
+use Rattle.gimple_ir.specs.Counts.{IsCountable}
+use Rattle.gimple_ir.specs.Spellable.{IsSpellable}
+use Rattle.words.specs.Limits.{IsLawfulSource}
+use Rattle.cp_lattices.specs.Few.{HasFewArguments}
+use Rattle.ipa_driver.proofs.FewLaws.{few_generated}
+
+-- a generated program is loaded
+pub generated_loaded : (words : List (List ℕ)) (n : ℕ) (mode : Mode) (old : Meaning) (p : Program) → IsLawfulSource (Generate n) → p ≡ generated n → IsSpellable p → IsCountable p → IsLoaded words (Generate n) mode old old (record { program = p; mode = mode })
+generated_loaded words n mode old p lawful e spellable countable = record {
+  good = ap Good e;
+  spellable = spellable;
+  countable = countable;
+  few = subst HasFewArguments (sym e) (few_generated n lawful.1);
+  mode = refl;
+  read = refl;
+}
 
 module _ (words : List (List ℕ)) (input : SourceName) (mode : Mode) (Makes : MadeOf) (old mid new : Meaning) (checked : Sealed) (outputs : List Output)
     (loads : Loads old mid) (loaded : IsLoaded words input mode old mid checked)

@@ -3,6 +3,7 @@ pub mod Summary
 pub mod Graph
 pub mod Legs
 pub mod Icf
+pub mod Propagated
 pub mod Pipeline
 pub mod Stores
 pub mod Source

@@ -17,6 +17,7 @@ use Rattle.ipa_driver.specs.declared.passes.Legs.{Legs}
 use Rattle.ipa_driver.specs.declared.passes.Product.{Product}
 use Rattle.ipa_driver.specs.Graph.{IsGraphText}
 use Rattle.ipa_driver.specs.Icf.{FoldsIdentical}
+use Rattle.ipa_driver.specs.Propagated.{Propagates}
 use Rattle.ipa_driver.specs.Legs.{IsLeg, NotBuilt, asked_text}
 use Rattle.ipa_driver.specs.Summary.{all_counts, measure_of, summary_text}
 
@@ -26,13 +27,13 @@ pub record DropsUnreached (p q : Sealed) : Type 0 where
   pub mode : q.mode ≡ p.mode
 
 -- The legs, one after another: identical code folding, constant propagation with clones, replacement of parameters, and the uses of mod/ref.
-pub record AreLegs (p : Sealed) (asked : Asked) (passes : Passes) (legs : Legs) : Type 0 where
+pub record AreLegs (p : Sealed) (asked : Asked) (passes : Passes) (params : Params) (legs : Legs) : Type 0 where
   pub folded : Leg
   pub propagated : Leg
   pub split : Leg
   pub cleared : Leg
   pub icf : IsLeg passes.icf (codes "icf") FoldsIdentical p asked.icf folded
-  pub cp : IsLeg passes.cp (codes "cp") (NotBuilt (codes "cp")) folded.program asked.cp propagated
+  pub cp : IsLeg passes.cp (codes "cp") (Propagates passes params.ipa_cp_value_list_size) folded.program asked.cp propagated
   pub sra : IsLeg passes.sra (codes "sra") (NotBuilt (codes "sra")) propagated.program asked.sra split
   pub modref : IsLeg passes.modref (codes "modref") (NotBuilt (codes "modref")) split.program asked.modref cleared
   -- what is kept of them: the last program, the texts, and all counts
@@ -50,7 +51,7 @@ pub record IsPipeline (p : Sealed) (asked : Asked) (passes : Passes) (params : P
   pub reached : Sealed
   pub legs : Legs
   pub drops : DropsUnreached p reached
-  pub passed : AreLegs reached asked passes legs
+  pub passed : AreLegs reached asked passes params legs
   pub drops_again : DropsUnreached legs.program product.program
   pub cgraph : IsGraphText asked.cgraph reached.program product.cgraph
   pub icf : product.icf ≡ legs.icf

@@ -6,6 +6,7 @@ use Rattle.gimple_ir.specs.declared.scalar.Mode.{Mode}
 use Rattle.gimple_core.specs.Sealed.{Sealed}
 use Rattle.gimple_ir.specs.Spellable.{IsSpellable}
 use Rattle.gimple_ir.specs.Counts.{IsCountable}
+use Rattle.cp_lattices.specs.Few.{HasFewArguments}
 use Rattle.ipa_driver.specs.declared.tool.Tool.{Tool}
 use Rattle.ipa_driver.specs.declared.finish.Fault.{Fault}
 use Rattle.ipa_driver.specs.declared.finish.Fault.TheVariants.{Read, Long, Text, Types, Memory}
@@ -51,6 +52,7 @@ pub record IsLoaded (words : List (List ℕ)) (source : SourceName) (wanted : Mo
   pub good : HasVerdict old.sources words source (Good checked.program)
   pub spellable : IsSpellable checked.program
   pub countable : IsCountable checked.program
+  pub few : HasFewArguments checked.program
   pub mode : checked.mode ≡ wanted
   pub read : new.read_faults ≡ old.read_faults
 

@@ -3,9 +3,11 @@
 ghost use Rattle.std.specs.Prelude.{◌≡◌, ◌++◌, IfOk, OnOk, MatchResult};
 ghost use Rattle.gimple_ir.specs.Spellable.{IsSpellable};
 ghost use Rattle.gimple_ir.specs.Counts.{IsCountable};
+ghost use Rattle.cp_lattices.specs.Few.{HasFewArguments};
 ghost use Rattle.ipa_driver.specs.Stores.{asked_of, asked_output, asked_outputs, output_rows, AreOutputs, AreStored, IsStoreFault, StoresOnly, StaysSure};
 
 use crate::passes::{Asked, Product, pipeline};
+use fix_engine::OrderSolver;
 use gimple_core::{Checked, OutOfMemory, Text};
 use gimple_text::print;
 use shelf::{Shelf, Stored};
@@ -48,11 +50,20 @@ pub fn outputs_of(
 ) -> Result<Vec<Output>, OutOfMemory>
     requires spellable { IsSpellable program.program }
     requires countable { IsCountable program.program }
+    requires few { HasFewArguments program.program }
     requires mode { program.mode ≡ options.now.mode }
     ensures { IfOk result (λ outputs. AreOutputs options.now program.program outputs.items) }
 {
     let asked = asked_of(options);
-    let product = pipeline(alloc, program, &asked, &options.passes, &options.params)?;
+    let mut solver = OrderSolver;
+    let product = pipeline(
+        alloc,
+        program,
+        &asked,
+        &options.passes,
+        &options.params,
+        &mut solver,
+    )?;
     let text = print(alloc, product.program.program())?;
     let rows = rows_of(alloc, options, product, text)?;
     let outputs = asked_outputs(alloc, rows)?;

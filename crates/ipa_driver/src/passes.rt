@@ -3,13 +3,16 @@
 ghost use Rattle.std.specs.Prelude.{◌≡◌, IfOk};
 ghost use Rattle.gimple_ir.specs.Counts.{IsCountable};
 ghost use Rattle.gimple_ir.specs.Spellable.{IsSpellable};
+ghost use Rattle.cp_lattices.specs.Few.{HasFewArguments};
 ghost use Rattle.ipa_driver.specs.Pipeline.{AreLegs, IsMade};
 ghost use Rattle.ipa_driver.specs.Summary.{all_counts};
 
 use crate::graph::graph_text;
 use crate::icf::icf_leg;
 use crate::legs::{Leg, idle};
+use crate::propagation::cp_leg;
 use crate::summary::{Counts, all_counts, asked_summary, measure_of};
+use crate::tables::Tables;
 use call_graph::drop_unreached;
 use gimple_core::{Checked, OutOfMemory, Params, Passes, Text};
 use std::alloc::Global;
@@ -49,21 +52,23 @@ pub struct Legs {
 }
 
 /// Runs the passes that are on, in their order, and makes the texts that are asked for. Err is want of memory.
-pub fn pipeline(
+pub fn pipeline<S: Tables>(
     alloc: Global,
     program: Checked,
     asked: &Asked,
     passes: &Passes,
     params: &Params,
+    solver: &mut S,
 ) -> Result<Product, OutOfMemory>
-    requires { IsCountable program.program }
+    requires countable { IsCountable program.program }
+    requires few { HasFewArguments program.program }
     ensures made { IfOk result (λ product. IsMade program asked.now passes.now params.now product) }
     ensures spellable { IfOk result (λ product. IsSpellable program.program → IsSpellable product.program.program) }
 {
     let source = measure_of(program.program());
     let reached = drop_unreached(alloc, program)?;
     let cgraph = graph_text(alloc, &reached, asked.cgraph)?;
-    let legs = legs_of(alloc, reached, asked, passes)?;
+    let legs = legs_of(alloc, reached, asked, passes, params, solver)?;
     let program = drop_unreached(alloc, legs.program)?;
     let output = measure_of(program.program());
     let summary = asked_summary(alloc, asked.summary, &source, &output, &legs.counts)?;
@@ -79,17 +84,20 @@ pub fn pipeline(
 }
 
 /// The passes between the two drops, each over the program of the one before.
-fn legs_of(
+fn legs_of<S: Tables>(
     alloc: Global,
     program: Checked,
     asked: &Asked,
     passes: &Passes,
+    params: &Params,
+    solver: &mut S,
 ) -> Result<Legs, OutOfMemory>
-    requires { IsCountable program.program }
-    ensures { IfOk result (λ legs. AreLegs program asked.now passes.now legs) }
+    requires countable { IsCountable program.program }
+    requires few { HasFewArguments program.program }
+    ensures { IfOk result (λ legs. AreLegs program asked.now passes.now params.now legs) }
 {
     let icf = icf_leg(alloc, passes.icf, program, asked.icf)?;
-    let cp = idle(alloc, "cp", icf.program, asked.cp)?;
+    let cp = cp_leg(alloc, icf.program, asked.cp, passes, params, solver)?;
     let sra = idle(alloc, "sra", cp.program, asked.sra)?;
     let modref = idle(alloc, "modref", sra.program, asked.modref)?;
     let counts = all_counts(&icf.counts, &cp.counts, &sra.counts, &modref.counts);
