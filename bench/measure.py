@@ -197,12 +197,13 @@ def texts(tool, folder, sizes):
 
 
 def generated(tool, folder, counts):
-    """Generated programs: written, read and written again, and folded."""
+    """Generated programs: written, read and written again, folded, and with constants propagated."""
     path, output = os.path.join(folder, "a.g"), os.path.join(folder, "b.g")
     kinds = (
         ("made", lambda count: [f"--generate={count}", "-O0", "-o", path]),
         ("read", lambda count: [path, "-O0", "-o", output]),
         ("folded", lambda count: [f"--generate={count}", "-O0", "-fipa-icf", "-o", output]),
+        ("propagated", lambda count: [f"--generate={count}", "-O2", "-fno-ipa-icf", "-o", output]),
     )
     before = {}
     for count in counts:
