@@ -4,7 +4,7 @@ ghost use Rattle.std.specs.Prelude.{◌≡◌, ◌<◌, ◌^◌, [], length, sli
 ghost use Rattle.gimple_ir.specs.Counts.{IsCountable};
 ghost use Rattle.value_domain.specs.Values.{none_val};
 ghost use Rattle.cp_lattices.specs.Few.{HasFewArguments};
-ghost use Rattle.cp_lattices.specs.Lattices.{rows_of};
+ghost use Rattle.cp_lattices.specs.Lattices.{AreLattices, rows_of};
 ghost use Rattle.ipa_dumps.specs.CpTexts.{AreRows, cp_text};
 ghost use Rattle.ipa_driver.specs.Legs.{IsLeg, asked_text};
 ghost use Rattle.ipa_driver.specs.Propagated.{Propagates, base_plan};
@@ -68,6 +68,23 @@ fn base_plan(alloc: Global, lattices: Lattices) -> Result<Plan, OutOfMemory>
     Ok(Plan { bases })
 }
 
+/// What is known of the formals of a program in every call. The symbols of its functions are let go before the program is
+/// folded.
+fn lattices_of<S: Tables>(
+    alloc: Global,
+    program: &Checked,
+    passes: &Passes,
+    params: &Params,
+    solver: &mut S,
+) -> Result<Lattices, OutOfMemory>
+    requires countable { IsCountable program.now.program }
+    requires few { HasFewArguments program.now.program }
+    ensures { IfOk result (λ ls. AreLattices program.now passes.now params.now.ipa_cp_value_list_size (rows_of ls)) }
+{
+    let symbols = solver.tables(alloc, program)?;
+    lattices_from(alloc, program, &symbols, solver, passes, params)
+}
+
 /// The leg of a program through which constants are propagated.
 fn propagated<S: Tables>(
     alloc: Global,
@@ -81,8 +98,7 @@ fn propagated<S: Tables>(
     requires few { HasFewArguments program.program }
     ensures { IfOk result (Propagates passes.now params.now.ipa_cp_value_list_size program asked) }
 {
-    let symbols = solver.tables(alloc, &program)?;
-    let lattices = lattices_from(alloc, &program, &symbols, solver, passes, params)?;
+    let lattices = lattices_of(alloc, &program, passes, params, solver)?;
     let text = values_text(alloc, &program, &lattices, asked)?;
     let plan = base_plan(alloc, lattices)?;
     let made = materialise(alloc, &program, &plan, solver, params)?;
