@@ -140,9 +140,9 @@ module _ (p : Sealed) (passes : Passes) (most : ℕ) (rows : List (List AbsVal))
       call_met n its =
           let fits = call_passes (env_of p.program s.top.function) p.program.functions (scope_of s.top) s.world.registers x c g is stmt_passes enters in
           meets_by g.params (slice_index_or rows n []) (values_of p.program.globals (scope_of s.top) s.world.registers c.arguments) 0 (λ j r declared.
-              let a = argument_at (env_of p.program s.top.function) g.params c.arguments j r fits.count fits.arguments declared in
-              subst (λ v. Holds v (row_value rows n j)) (sym (value_given p.program.globals (scope_of s.top) s.world.registers c.arguments j a.operand (zero_of r.scalar) a.given))
-              (argument_holds n j r a.operand its declared a.given a.passes c.callee refl))
+          let a = argument_at (env_of p.program s.top.function) g.params c.arguments j r fits.count fits.arguments declared in
+          subst (λ v. Holds v (row_value rows n j)) (sym (value_given p.program.globals (scope_of s.top) s.world.registers c.arguments j a.operand (zero_of r.scalar) a.given))
+          (argument_holds n j r a.operand its declared a.given a.passes c.callee refl))
 
   -- ---- each entry that a step tells
 

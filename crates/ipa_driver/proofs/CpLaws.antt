@@ -40,7 +40,7 @@ module _ (hold : LatticesHold) (fit : LatticesFit) (p : Sealed) (passes : Passes
   plan_fits = record {
     count = length-map rows (λ (row : List AbsVal). record { formals = row }) ∙ are.least.solves.are_rows.count;
     each = λ n f c own there.
-      subst (λ x. FactsFit f x most (thresholds_list p.program)) (sym (facts_there rows n (context_facts c) (given_there (base_plan rows) n c there))) (fit p passes most rows are n f own);
+        subst (λ x. FactsFit f x most (thresholds_list p.program)) (sym (facts_there rows n (context_facts c) (given_there (base_plan rows) n c there))) (fit p passes most rows are n f own);
   }
 
   pub facts_hold : first_fault p.program ≡ None → FactsHold p (base_facts (base_plan rows))

@@ -33,7 +33,9 @@ impl<'a> CpView for FormalValues<'a> {
         requires formal { formal < length (slice_index_or (rows_of self.now.lattices.now) function []) }
         ensures { result.now ≡ slice_index_or (slice_index_or (rows_of self.now.lattices.now) function []) formal none_val }
     {
-        &self.lattices.as_slice()[function as usize].formals.as_slice()[formal as usize]
+        &self.lattices.as_slice()[function as usize]
+            .formals
+            .as_slice()[formal as usize]
     }
 }
 
