@@ -1,7 +1,5 @@
 -- The values of formals fit.
-use Rattle.std.proofs.Common.{◌≡◌, ℕ, ◌<◌, [], length, subst, Some, slice_get, slice_index_or, arith}
-use Rattle.gimple_ir.specs.declared.program.Function.{Function}
-use Rattle.gimple_core.specs.Sealed.{Sealed}
+use Rattle.std.proofs.Common.{◌≡◌, [], length, slice_index_or, arith}
 use Rattle.value_domain.specs.Thresholds.{thresholds_list}
 use Rattle.value_domain.specs.Values.{FitsWith}
 use Rattle.cp_lattices.specs.LatticeClaims.{LatticesFit}

@@ -1,9 +1,8 @@
 -- A call by name that is reached gives its arguments to the formals of the function that it enters, and what it gives holds them.
-use Rattle.std.proofs.Common.{◌≡◌, ℕ, zero, suc, ◌+◌, ◌<◌, ℤ, pos, Bool, true, false, cond, List, [], ◌∷◌, ◌++◌, map, length, refl, sym, ◌∙◌, ap, subst, arith, Option, Some, None, Ok, option_map, position, slice_get, slice_index_or, unwrap_or}
+use Rattle.std.proofs.Common.{◌≡◌, ℕ, zero, suc, ◌+◌, ◌<◌, ℤ, pos, Bool, true, false, cond, List, [], ◌∷◌, ◌++◌, map, length, refl, sym, ◌∙◌, ap, subst, arith, Option, Some, None, Ok, option_map, slice_get, slice_index_or, unwrap_or}
 use Rattle.std.specs.List.{AllByRecursion, list_all}
 use Rattle.std.specs.Ordering.{int_eq}
-use Rattle.std.specs.Str.{bytes_eq}
-use Rattle.std.proofs.lemmas.Option.{slice_get-map, slice_get_within}
+use Rattle.std.proofs.lemmas.Option.{slice_get-map}
 use Rattle.gimple_ir.specs.declared.options.Passes.{Passes}
 use Rattle.gimple_ir.specs.declared.scalar.Mode.{Mode}
 use Rattle.gimple_ir.specs.declared.scalar.Scalar.{Scalar}
@@ -11,14 +10,13 @@ use Rattle.gimple_ir.specs.declared.scalar.Scalar.TheVariants.{I64}
 use Rattle.gimple_ir.specs.declared.declarations.Register.{Register}
 use Rattle.gimple_ir.specs.declared.operand.Operand.{Operand}
 use Rattle.gimple_ir.specs.declared.value.Value.{Value}
-use Rattle.gimple_ir.specs.declared.block.Block.{Block}
 use Rattle.gimple_ir.specs.declared.program.Function.{Function}
 use Rattle.gimple_ir.specs.declared.statement.Stmt.{Stmt}
 use Rattle.gimple_ir.specs.declared.statement.Stmt.TheVariants.{Call}
 use Rattle.gimple_core.specs.Accepted.{first_fault}
-use Rattle.gimple_core.specs.Env.{Env, functions_by_name}
+use Rattle.gimple_core.specs.Env.{Env}
 use Rattle.gimple_core.specs.Operators.{in_scalar}
-use Rattle.gimple_core.specs.Run.{Named, function_named, value_of}
+use Rattle.gimple_core.specs.Run.{function_named, value_of}
 use Rattle.gimple_core.specs.Sealed.{Sealed}
 use Rattle.gimple_core.specs.State.{State, scope_of, zero_of, is_of}
 use Rattle.gimple_core.specs.Statements as check
@@ -27,13 +25,11 @@ use Rattle.gimple_core.proofs.Passed.{first_passed}
 use Rattle.gimple_claims.specs.Checks.{env_of}
 use Rattle.gimple_claims.specs.Bodies.{FactsClaim, Meets}
 use Rattle.gimple_claims.specs.Typed.{registers_typed}
-use Rattle.gimple_claims.proofs.Activation.{own}
 use Rattle.gimple_claims.proofs.Comes.{Comes}
 use Rattle.gimple_claims.proofs.OneRun.{each_before}
 use Rattle.gimple_claims.proofs.Points.{meets_of}
 use Rattle.gimple_claims.proofs.Typed.{values_are_typed}
 use Rattle.value_domain.specs.declared.abs_val.AbsVal.{AbsVal}
-use Rattle.value_domain.specs.AbsOperators.{top_of}
 use Rattle.value_domain.specs.Holding.{Holds}
 use Rattle.value_domain.specs.Thresholds.{IsLawful, thresholds_list}
 use Rattle.value_domain.specs.Values.{FitsWith, none_val}
@@ -69,7 +65,7 @@ use Rattle.cp_lattices.specs.Gifts.{Bodies, AreBodies, IsGift, top_body}
 use Rattle.cp_lattices.specs.Lattices.{row_value, source_value, gift_value, making_of, IsSolution}
 use Rattle.cp_lattices.proofs.Entering.{EntryHas, top_entered, entry_has}
 use Rattle.cp_lattices.proofs.HoldLaws.{given_holds, given_is_good}
-use Rattle.cp_lattices.proofs.OwnNumbers.{numbered, place_named, table_at, register_at, meets_at}
+use Rattle.cp_lattices.proofs.OwnNumbers.{place_named, register_at, meets_at}
 
 -- ---- what a jump function speaks of
 

@@ -1,5 +1,5 @@
 -- The values of formals hold in each run.
-use Rattle.std.proofs.Common.{◌≡◌, ℕ, zero, suc, ◌+◌, ◌<◌, ℤ, true, List, [], ◌∷◌, length, refl, sym, ◌∙◌, ap, subst, arith, Option, Some, None, Ok, All, slice_get, slice_index_or, unwrap_or}
+use Rattle.std.proofs.Common.{◌≡◌, ℕ, zero, suc, ◌<◌, ℤ, true, List, [], ◌∷◌, length, refl, sym, ◌∙◌, ap, subst, arith, Option, Some, None, Ok, All, slice_get, slice_index_or, unwrap_or}
 use Rattle.std.specs.List.{AllByRecursion, list_all}
 use Rattle.std.proofs.lemmas.List.Elements.{All-head, All-tail}
 use Rattle.std.proofs.lemmas.Option.{slice_get_within}
@@ -20,7 +20,7 @@ use Rattle.gimple_core.specs.Run.{Callee, Named, Through, Calling, call_of, call
 use Rattle.gimple_core.specs.Sealed.{Sealed}
 use Rattle.gimple_core.specs.State.{State, Scope, scope_of, value_at, value_in, zero_of, is_of}
 use Rattle.gimple_core.specs.Statements as check
-use Rattle.gimple_core.specs.Trace.{Event, Entry, At, Load, Store, Leave, EachAfter, main_entry, told, told_by, access, Trace, arguments_at, crossing, after}
+use Rattle.gimple_core.specs.Trace.{Event, Entry, At, Load, Store, Leave, EachAfter, main_entry, told, told_by, access, Trace, arguments_at, crossing}
 use Rattle.gimple_core.proofs.ProgramTyped.{accepted_typed}
 use Rattle.gimple_core.proofs.StepLemmas.{calling_stmt, call_is}
 use Rattle.gimple_claims.specs.Addressed.{ValueAddressed}
@@ -29,7 +29,7 @@ use Rattle.gimple_claims.specs.Checks.{env_of, StmtsPass}
 use Rattle.gimple_claims.proofs.Accesses.{access_all}
 use Rattle.gimple_claims.proofs.Activation.{own}
 use Rattle.gimple_claims.proofs.Addressed.{function_values_are_addressed}
-use Rattle.gimple_claims.proofs.Callees.{HoldsFunction, by_name, through_is, CallPasses, call_passes}
+use Rattle.gimple_claims.proofs.Callees.{by_name, through_is, call_passes}
 use Rattle.gimple_claims.proofs.Comes.{Comes, holds_with}
 use Rattle.gimple_claims.proofs.Lost.{stands}
 use Rattle.gimple_claims.proofs.OneRun.{in_run}
@@ -51,7 +51,7 @@ use Rattle.cp_lattices.specs.Gifts.{Bodies, AreBodies}
 use Rattle.cp_lattices.specs.Lattices.{row_value, IsSolution}
 use Rattle.cp_lattices.specs.LatticeClaims.{row_facts, LatticesHold}
 use Rattle.cp_lattices.proofs.Entering.{EntryHas, all_appended, all_after}
-use Rattle.cp_lattices.proofs.HeldArguments.{IsArgument, argument_at, value_given, IsMet, named_holds}
+use Rattle.cp_lattices.proofs.HeldArguments.{argument_at, value_given, IsMet, named_holds}
 use Rattle.cp_lattices.proofs.OwnNumbers.{name_is, numbered, table_at, meets_by}
 
 -- ---- main, and functions that values are
