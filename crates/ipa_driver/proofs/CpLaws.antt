@@ -1,9 +1,8 @@
 -- What constant propagation makes of a program may replace it.
-use Rattle.std.proofs.Common.{◌≡◌, ℕ, zero, suc, ◌≤◌, Bool, true, false, List, [], ◌∷◌, length, map, codes, Option, Some, None, slice_get, slice_index_or, refl, sym, ap, ◌∙◌, subst, arith}
+use Rattle.std.proofs.Common.{◌≡◌, ℕ, zero, suc, ◌≤◌, Bool, true, false, List, [], ◌∷◌, length, map, codes, Some, None, slice_get, slice_index_or, refl, sym, ◌∙◌, subst, arith}
 use Rattle.std.proofs.lemmas.List.{length-map}
 use Rattle.gimple_ir.specs.declared.options.Passes.{Passes}
 use Rattle.gimple_ir.specs.declared.program.Function.{Function}
-use Rattle.gimple_ir.specs.declared.program.Program.{Program}
 use Rattle.gimple_ir.specs.Size.{size_of_program}
 use Rattle.gimple_core.specs.Accepted.{IsAccepted, first_fault}
 use Rattle.gimple_core.specs.Replacing.{Replaces}
@@ -17,7 +16,6 @@ use Rattle.body_values.specs.declared.facts.Facts.{Facts}
 use Rattle.body_values.specs.Claims.{given_of}
 use Rattle.body_values.specs.System.{FactsFit}
 use Rattle.body_fold.specs.Claims.{FactsHold}
-use Rattle.cp_apply.specs.declared.plan.Context.{Context}
 use Rattle.cp_apply.specs.Bases.{context_facts, base_facts, PlanFits}
 use Rattle.cp_apply.proofs.MadeLaws.{given_there}
 use Rattle.cp_apply.proofs.ReplacingLaws.{made_replaces, made_shrinks}

@@ -1,5 +1,5 @@
 -- A source has few enough formals and arguments for all passes.
-use Rattle.std.proofs.Common.{◌≡◌, ℕ, zero, suc, ◌+◌, ◌*◌, ◌%◌, ◌==◌, ◌<◌, ◌≤◌, ◌^◌, Bool, true, false, if◌then◌else◌, not, List, [], ◌∷◌, ◌++◌, length, map, filter, sum_by, codes, refl, sym, ap, subst, arith, le_trans, length-append, inl, inr}
+use Rattle.std.proofs.Common.{◌≡◌, ℕ, zero, suc, ◌+◌, ◌*◌, ◌%◌, ◌==◌, ◌≤◌, Bool, true, false, if◌then◌else◌, not, List, [], ◌∷◌, ◌++◌, length, map, filter, sum_by, codes, refl, sym, ap, subst, arith, length-append, inl, inr}
 use Rattle.std.specs.List.{range_with_len, flat_map}
 use Rattle.std.proofs.lemmas.List.Sums.{sum_by-append, sum_by-cons}
 use Rattle.std.proofs.lemmas.List.Concat.{flat_map-cons}
@@ -21,7 +21,7 @@ use Rattle.gimple_text.specs.Parse.{Spells}
 use Rattle.gimple_text.proofs.SizeLaws.{many_size, separated_size, function_formals, functions_size}
 use Rattle.icf_classes.specs.Merged.{IsMerged, sent, sent_stmt, sent_block, sent_function, is_kept}
 use Rattle.icf_classes.proofs.MergedLaws.{sum_mapped}
-use Rattle.cp_lattices.specs.Few.{arguments_of_stmt, arguments_of_block, arguments_of_function, arguments_of_program, formals_of_program, HasFewArguments}
+use Rattle.cp_lattices.specs.Few.{arguments_of_stmt, arguments_of_block, arguments_of_function, HasFewArguments}
 use Rattle.ipa_driver.specs.declared.legs.Leg.{Leg}
 use Rattle.ipa_driver.specs.Icf.{FoldsIdentical}
 use Rattle.ipa_driver.specs.Legs.{IsLeg}

@@ -1,5 +1,5 @@
 -- What identical code folding makes of a program.
-use Rattle.std.specs.Prelude.{◌≡◌, ℕ, ◌-◌, Bool, List, length, codes}
+use Rattle.std.specs.Prelude.{◌≡◌, ℕ, ◌-◌, Bool, List, length}
 use Rattle.gimple_core.specs.Sealed.{Sealed}
 use Rattle.icf_classes.specs.Congruence.{AreLargestClasses}
 use Rattle.icf_classes.specs.Merged.{IsMerged}

@@ -1,13 +1,10 @@
-use Rattle.std.proofs.Common.{◌≡◌, ◌≤◌, ℕ, rules, refl, sym, ap, ◌∙◌, subst}
-use Rattle.gimple_ir.specs.declared.program.Program.{Program}
+use Rattle.std.proofs.Common.{ℕ, sym, subst}
 use Rattle.gimple_core.specs.Sealed.{Sealed}
-use Rattle.gimple_gen.specs.Generated.{generated}
 use Rattle.words.specs.declared.options.SourceName.{SourceName}
 use Rattle.words.specs.declared.options.SourceName.TheVariants.{Generate}
 use Rattle.words.specs.Limits.{IsLawfulSource}
 use Rattle.shelf.specs.Outside.{Meaning}
 use Rattle.ipa_driver.specs.Work.{IsLoaded}
-use Rattle.ipa_driver.proofs.FewLaws.{few_generated}
 use Rattle.ipa_driver.proofs.WorkLaws.{generated_loaded}
 use Rattle.ipa_driver.proofs.load.load.Goals as goal
 

@@ -1,5 +1,4 @@
-use Rattle.std.proofs.Common.{◌≡◌, rules, sym, refl, subst}
-use Rattle.gimple_core.specs.Sealed.{Sealed}
+use Rattle.std.proofs.Common.{rules, sym, subst}
 use Rattle.cp_lattices.specs.Lattices.{rows_of}
 use Rattle.cp_apply.specs.declared.plan.Plan.{Plan}
 use Rattle.cp_apply.specs.Bases.{PlanFits, IsMade}
