@@ -46,7 +46,7 @@ pub fn lattices_from<S: Solver>(
 /// What is known of each formal of each function in every call: the least values above what the arguments of reached calls give,
 /// where a formal of a function whose address is taken has any value.
 ///
-/// Err is want of memory. Source: Callahan, Cooper, Kennedy and Torczon 1986; docs/ANALYSES.md, values of formals.
+/// Err is want of memory. Source: Callahan, Cooper, Kennedy and Torczon 1986; docs/PASSES.md, constant propagation.
 pub fn lattices<S: Solver>(
     alloc: Global,
     program: &Checked,
